@@ -1,0 +1,3 @@
+mod KindFacts
+mod RoundingFacts
+pub mod NumberFacts
