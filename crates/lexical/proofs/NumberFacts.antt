@@ -16,7 +16,6 @@ use Rattle.std.proofs.shelf.Signed.{ints}
 use Rattle.std.proofs.shelf.Tests.{leb-true, le-leb, lt-leb, eqb-true, ne-eqb, and-parts, and-from, and-left, and-right, cases-bool}
 use Rattle.std.specs.declared.option.Option.{Option as Maybe}
 use Rattle.std.specs.declared.option.Option.the-variants.{Some, None}
-use Rattle.lexical.specs.declared.kinds.Kind.the-variants.{Digit, Hyphen, Point}
 use Rattle.lexical.specs.Kinds.{digit, kind}
 use Rattle.lexical.specs.Words.{all}
 use Rattle.lexical.specs.Rounding.{nearest, hundredths}
@@ -286,7 +285,7 @@ figures-small m ds e =
     let b : 10 ^ length ds ≤ 10 ^ m = pow-le-pow-right {n = 10} (omega arith) {i = length ds} {j = m} (g .1) in
     (g .1, d, omega arith)
 
-scaled-small : (x k : ℕ) → k ≤ 3 → x < 10 ^ k → scaled x k < 1000
+pub scaled-small : (x k : ℕ) → k ≤ most-fraction → x < 10 ^ k → scaled x k < 1000
 scaled-small x zero l h = omega arith
 scaled-small x (suc zero) l h = omega arith
 scaled-small x (suc (suc zero)) l h = omega arith

@@ -22,30 +22,30 @@ most-whole = 5
 abbrev pub most-fraction : ℕ
 most-fraction = 3
 
--- one to m digits
+-- whether the bytes are one to m digits
 unfoldable pub figures : ℕ → List ℕ → Bool
 figures m ds = leb 1 (length ds) && (leb (length ds) m && all digit ds)
 
--- the number that n and then the digits write
+-- the number that the digits write after those of n, from left to right
 abbrev pub decimal : ℕ → List ℕ → ℕ
 decimal n [] = n
 decimal n (b ∷ bs) = decimal (n * 10 + (b - 48)) bs
 
--- what k digits after the point count, in thousandths, by their value n
+-- k digits after the point with the value n, in thousandths: 5 is 500, 05 is 50, 005 is 5
 abbrev pub scaled : ℕ → ℕ → ℕ
 scaled n k = n * 10 ^ (most-fraction - k)
 
--- digits, and perhaps a point with digits: the thousandths that they write
+-- Digits, and perhaps a point with digits, are so many thousandths.
 pub data Thousandths : List ℕ → ℕ → Type 0 where
   plain : (w : List ℕ) → figures most-whole w ≡ true → Thousandths w (decimal 0 w * 1000)
   parted : (w f : List ℕ) → figures most-whole w ≡ true → figures most-fraction f ≡ true → Thousandths (w ++ 46 ∷ f) (decimal 0 w * 1000 + scaled (decimal 0 f) (length f))
 
--- perhaps a minus before them: the hundredths that they write
+-- With or without a minus before them they are a number, and its value is those thousandths rounded to hundredths.
 pub data Number : List ℕ → ℤ → Type 0 where
   positive : (s : List ℕ) (n : ℕ) → Thousandths s n → Number s (hundredths (pos n))
   negative : (s : List ℕ) (n : ℕ) → Thousandths s n → Number (45 ∷ s) (hundredths (negℤ (pos n)))
 
--- The same by a decision.
+-- The same as a function, for models that have to compute: none where the bytes are no number.
 
 -- the value of one to m digits
 abbrev pub valued : ℕ → List ℕ → Maybe ℕ
@@ -56,22 +56,23 @@ unfoldable pub first-point : List ℕ → ℕ
 first-point [] = 0
 first-point (b ∷ bs) = cond (eqb b 46) 0 (suc (first-point bs))
 
--- the thousandths that k digits after the point write, by their value
+-- the value of k digits after the point, in thousandths
 abbrev pub in-thousandths : ℕ → Maybe ℕ → Maybe ℕ
 in-thousandths k None = None
 in-thousandths k (Some n) = Some (scaled n k)
 
--- the thousandths of a point and its digits; of nothing, zero
+-- what stands from the point on, in thousandths; nothing is zero
 unfoldable pub fraction : List ℕ → Maybe ℕ
 fraction [] = Some 0
 fraction (p ∷ f) = in-thousandths (length f) (valued most-fraction f)
 
--- the whole part and the fraction together, where both are there
+-- the whole part and the fraction, where both are there
 abbrev pub together : Maybe ℕ → Maybe ℕ → Maybe ℕ
 together None f = None
 together (Some w) None = None
 together (Some w) (Some n) = Some (w * 1000 + n)
 
+-- a number without its sign, in thousandths
 unfoldable pub thousandths : List ℕ → Maybe ℕ
 thousandths s = together (valued most-whole (take (first-point s) s)) (fraction (drop (first-point s) s))
 
@@ -88,7 +89,7 @@ abbrev pub with-sign : Bool → Maybe ℕ → Maybe ℤ
 with-sign minus None = None
 with-sign minus (Some n) = Some (signed minus n)
 
--- the thousandths of a number, with its sign
+-- a number in thousandths
 unfoldable pub exact : List ℕ → Maybe ℤ
 exact s = with-sign (has-minus s) (thousandths (drop (cond (has-minus s) 1 0) s))
 
@@ -96,11 +97,11 @@ abbrev pub rounded : Maybe ℤ → Maybe ℤ
 rounded None = None
 rounded (Some z) = Some (hundredths z)
 
--- the value in hundredths, where the bytes are a number
+-- a number in hundredths
 abbrev pub number : List ℕ → Maybe ℤ
 number s = rounded (exact s)
 
--- The decision says yes to the numbers and to nothing else, with their values: so a text has at most one.
+-- The function gives a value to the numbers and to nothing else, and it is theirs. So a text has at most one value.
 abbrev pub NumberRule : Type 0
 NumberRule = (s : List ℕ) (v : ℤ) → (number s ≡ Some v → Number s v) × (Number s v → number s ≡ Some v)
 
@@ -116,6 +117,6 @@ figure-kind Slash = false
 figure-kind Blank = false
 figure-kind Other = false
 
--- Half a hundredth goes away from zero, and less than half to it.
+-- Half a hundredth goes away from zero, and less than half toward it.
 abbrev pub WorkedNumbers : Type 0
 WorkedNumbers = Number (codes "-0.005") (negsuc 0) × Number (codes "-0.004") (pos 0) × Number (codes "33.005") (pos 3301)

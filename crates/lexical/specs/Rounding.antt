@@ -12,11 +12,11 @@ abbrev pub hundredths : ℤ → ℤ
 hundredths (pos n) = pos (nearest n)
 hundredths (negsuc n) = negℤ (pos (nearest (suc n)))
 
--- ten times h lies at most five above n, and less than five below it
+-- ten times h is nearest to n: at most five above it, or less than five below it, so that a tie goes up
 abbrev pub Nearest : ℕ → ℕ → Type 0
 Nearest n h = (10 * h ≤ n + 5) × (n < 10 * h + 5)
 
--- The thousandths of a magnitude become the one nearest number of hundredths, of two the greater, and a sign goes through.
+-- A magnitude of n thousandths becomes h hundredths for the nearest h and no other, of two the farther from zero; and a sign changes nothing else.
 abbrev pub RoundingRule : Type 0
 RoundingRule =
     ((n h : ℕ) → (hundredths (pos n) ≡ pos h → Nearest n h) × (Nearest n h → hundredths (pos n) ≡ pos h))

@@ -1,10 +1,10 @@
 // Numbers as text: an optional minus, one to five digits, and optionally a point with one to three digits.
 ghost use mathlib.Core.Bool.{true};
 ghost use mathlib.Core.Path.{_≡_};
-ghost use Prim.Native.Nat.{_<_, _≤_, _^_, _*_};
+ghost use Prim.Native.Nat.{_<_, _≤_, _^_};
 ghost use lib.ListN.{length};
 ghost use Rattle.std.specs.Options.{Cases as BySome};
-ghost use Rattle.lexical.specs.Numbers.{valued, scaled, first-point, fraction, thousandths, has-minus, signed, exact, number};
+ghost use Rattle.lexical.specs.Numbers.{most-fraction, valued, scaled, first-point, fraction, thousandths, has-minus, signed, exact, number};
 use crate::kinds::Kind;
 use crate::kinds::kind_of;
 use crate::rounding::hundredths;
@@ -14,7 +14,7 @@ const MOST_WHOLE: usize = 5;
 
 const MOST_FRACTION: usize = 3;
 
-// The value of one to `most` digits.
+// The value of one to `most` digits. Nine always fit the answer.
 fn figures(digits: &[u8], most: usize) -> Option<u32>
     requires { ⌜ most ≤ 9 ⌝ }
     ensures value { λ r. ⌜ r ≡ valued most (now (digits .entry)) ⌝ }
@@ -46,21 +46,15 @@ fn first_point(bytes: &[u8]) -> usize
     bytes.len()
 }
 
-// What some digits after the point count, in thousandths, by their value.
+// Digits after the point with the value n, in thousandths.
 fn scale(n: u32, digits: usize) -> u32
-    requires { ⌜ digits ≤ 3 ⌝ ∗ ⌜ n < 10 ^ digits ⌝ }
-    ensures value { λ r. ⌜ r ≡ scaled n digits ⌝ }
-    ensures small { λ r. ⌜ r < 1000 ⌝ }
+    requires { ⌜ digits ≤ most-fraction ⌝ ∗ ⌜ n < 10 ^ digits ⌝ }
+    ensures { λ r. ⌜ r ≡ scaled n digits ⌝ }
 {
-    match digits {
-        0 => n * 1000,
-        1 => n * 100,
-        2 => n * 10,
-        _ => n,
-    }
+    n * 10u32.pow((MOST_FRACTION - digits) as u32)
 }
 
-// The thousandths of a point and its digits; of nothing, zero.
+// What stands from the point on, in thousandths; nothing is zero.
 fn fraction(part: &[u8]) -> Option<u32>
     ensures value { λ r. ⌜ r ≡ fraction (now (part .entry)) ⌝ }
     ensures small { λ r. ⌜ BySome r Unit (λ n. n < 1000) ⌝ }
@@ -73,10 +67,10 @@ fn fraction(part: &[u8]) -> Option<u32>
     Some(scale(n, digits.len()))
 }
 
-// The thousandths of a number without its sign.
+// A number without its sign, in thousandths.
 fn thousandths(bytes: &[u8]) -> Option<u32>
     ensures value { λ r. ⌜ r ≡ thousandths (now (bytes .entry)) ⌝ }
-    ensures small { λ r. ⌜ BySome r Unit (λ n. n < 100000000) ⌝ }
+    ensures small { λ r. ⌜ BySome r Unit (λ n. n < 10 ^ 8) ⌝ }
 {
     let point = first_point(bytes);
     let whole = figures(&bytes[..point], MOST_WHOLE)?;
@@ -89,24 +83,18 @@ fn has_minus(bytes: &[u8]) -> bool
     ensures value { λ r. ⌜ r ≡ has-minus (now (bytes .entry)) ⌝ }
     ensures within { λ r. ⌜ (r ≡ true → 1 ≤ length (now (bytes .entry))) ⌝ }
 {
-    if bytes.is_empty() {
-        return false;
-    }
-    match kind_of(bytes[0]) {
-        Kind::Hyphen => true,
-        _ => false,
-    }
+    !bytes.is_empty() && matches!(kind_of(bytes[0]), Kind::Hyphen)
 }
 
 // A magnitude with its sign.
 fn signed(size: u32, minus: bool) -> i32
-    requires { ⌜ size < 100000000 ⌝ }
+    requires { ⌜ size < 10 ^ 8 ⌝ }
     ensures { λ r. ⌜ r ≡ signed minus size ⌝ }
 {
     if minus { -(size as i32) } else { size as i32 }
 }
 
-// The thousandths of a number, with its sign.
+// A number in thousandths.
 fn exact(bytes: &[u8]) -> Option<i32>
     ensures { λ r. ⌜ r ≡ exact (now (bytes .entry)) ⌝ }
 {
@@ -115,7 +103,7 @@ fn exact(bytes: &[u8]) -> Option<i32>
     Some(signed(size, minus))
 }
 
-// The value of a number in hundredths, a half away from zero; none where the bytes are no number.
+// A number in hundredths, rounded to the nearest, a half away from zero; none where the bytes are no number.
 pub fn number(bytes: &[u8]) -> Option<i32>
     ensures { λ r. ⌜ r ≡ number (now (bytes .entry)) ⌝ }
 {

@@ -1,11 +1,11 @@
 // Rounding from thousandths to hundredths. Whatever rounds calls this.
 ghost use mathlib.Core.Path.{_≡_};
-ghost use Prim.Native.Nat.{_≤_};
+ghost use Prim.Native.Nat.{_≤_, _^_};
 ghost use Rattle.lexical.specs.Rounding.{nearest, hundredths};
 
 // A tenth of a magnitude, a half up.
 fn nearest(n: u32) -> u32
-    requires { ⌜ n ≤ 2147483648 ⌝ }
+    requires { ⌜ n ≤ 2 ^ 31 ⌝ }
     ensures { λ r. ⌜ r ≡ nearest n ⌝ }
 {
     (n + 5) / 10

@@ -6,12 +6,12 @@ use borrow.Author.Needs.{needs}
 use lib.IntN.{ℤ}
 use lib.ListN.{length, take, drop}
 use mir.Syntax.{w32}
-use mir.Val.{SFits, toZ, ofZ, boolByte}
+use mir.Val.{SFits, boolByte}
 use Rattle.std.proofs.shelf.Lists.{take-rest}
 use Rattle.std.proofs.shelf.Signed.{toZ-ofZ}
 use Rattle.std.specs.declared.option.Option.{Option as Maybe}
 use Rattle.std.specs.declared.option.Option.the-variants.{Some, None}
-use Rattle.lexical.specs.Numbers.{thousandths, has-minus, signed, with-sign, exact}
+use Rattle.lexical.specs.Numbers.{thousandths, has-minus, with-sign, exact}
 use Rattle.lexical.proofs.NumberFacts.{exact-with}
 use Rattle.lexical.proofs.numbers.exact.Needs as need
 

@@ -1,6 +1,6 @@
 use mathlib.Core.Bool.{Bool, true, false, _&&_}
 use mathlib.Core.List.{List}
-use mathlib.Core.Path.{_≡_, refl, sym, ap, subst, _∙_}
+use mathlib.Core.Path.{_≡_, sym, ap, subst, _∙_}
 use Prim.Native.Nat.{ℕ, _+_, _-_, _*_, _^_, _<_, _≤_}
 use native.Mathlib.Nat.{pow-le-pow-right}
 use native.Mathlib.Omega.{arith}
@@ -11,7 +11,7 @@ use Rattle.std.specs.declared.option.Option.{Option as Maybe}
 use Rattle.std.specs.declared.option.Option.the-variants.{Some}
 use Rattle.lexical.specs.Kinds.{digit}
 use Rattle.lexical.specs.Words.{all}
-use Rattle.lexical.specs.Numbers.{decimal, valued}
+use Rattle.lexical.specs.Numbers.{decimal}
 use Rattle.lexical.proofs.KindFacts.{is-digit, no-digit, digit-range}
 use Rattle.lexical.proofs.NumberFacts.{valued-yes, valued-empty, valued-long, valued-stray, next-power}
 use Rattle.lexical.proofs.numbers.figures.Needs as need

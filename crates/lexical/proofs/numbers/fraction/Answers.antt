@@ -1,5 +1,5 @@
-use mathlib.Core.List.{List, []}
-use mathlib.Core.Path.{_≡_, refl, sym, ap, _∙_}
+use mathlib.Core.List.{List}
+use mathlib.Core.Path.{_≡_, sym, ap, _∙_}
 use Prim.Native.Nat.{ℕ, _-_, _<_}
 use native.Mathlib.Omega.{arith}
 use borrow.Author.Needs.{needs}
@@ -8,8 +8,8 @@ use Rattle.std.proofs.shelf.Lists.{nil-from-length, take-rest}
 use Rattle.std.proofs.shelf.Results.{cases-from-none}
 use Rattle.std.specs.declared.option.Option.{Option as Maybe}
 use Rattle.std.specs.declared.option.Option.the-variants.{Some, None}
-use Rattle.lexical.specs.Numbers.{most-fraction, valued, scaled, in-thousandths, fraction}
-use Rattle.lexical.proofs.NumberFacts.{fraction-nil, fraction-past}
+use Rattle.lexical.specs.Numbers.{most-fraction, valued, in-thousandths, fraction}
+use Rattle.lexical.proofs.NumberFacts.{fraction-nil, fraction-past, scaled-small}
 use Rattle.lexical.proofs.numbers.fraction.Needs as need
 
 -- the digits as the code has them, and their value
@@ -38,7 +38,7 @@ returns c =
     let h : 0 < length s = search needs in
     record {
       value =
-          ap {B = Maybe ℕ} Some (c .scale .ensures .value)
+          ap {B = Maybe ℕ} Some (c .scale .ensures)
           ∙ read s (take (length s - 1) (drop 1 s)) (Some (c .in-Continue-n .n)) h (take-rest s 1) (c .in-Continue-n .ensures tt .value);
-      small = c .scale .ensures .small;
+      small = rw (c .scale .ensures) (scaled-small (c .in-Continue-n .n) _ (c .in-Continue-n .ensures tt .small .0) (c .in-Continue-n .ensures tt .small .1));
     }
