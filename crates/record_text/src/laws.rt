@@ -1,0 +1,37 @@
+// The laws of record text: each function's contract is a theorem on the definitions that the contract of `open` cites.
+ghost use Rattle.record_text.specs.Laws.{FitsInText, KeepsShape, OneAnswer, OneCut, OneList};
+
+// Every text has one answer of those that the grammar and the limits give.
+pub fn one_answer() -> u8
+    ensures { λ _. ⌜ OneAnswer ⌝ }
+{
+    0
+}
+
+// A well-formed text has one list of entries.
+pub fn one_list() -> u8
+    ensures { λ _. ⌜ OneList ⌝ }
+{
+    0
+}
+
+// A text is cut into items in one way.
+pub fn one_cut() -> u8
+    ensures { λ _. ⌜ OneCut ⌝ }
+{
+    0
+}
+
+// Items that fit begin the items of some well-formed text.
+pub fn fits_in_text() -> u8
+    ensures { λ _. ⌜ FitsInText ⌝ }
+{
+    0
+}
+
+// The entries of an accepted text have the shape of a record.
+pub fn keeps_shape() -> u8
+    ensures { λ _. ⌜ KeepsShape ⌝ }
+{
+    0
+}

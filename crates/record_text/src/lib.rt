@@ -1,0 +1,17 @@
+// Record text: XML-like text read into a list of node entries.
+mod cutter;
+mod entry;
+mod laws;
+mod names;
+mod nest;
+mod reader;
+mod tags;
+mod turn;
+
+pub use entry::Entry;
+pub use laws::fits_in_text;
+pub use laws::keeps_shape;
+pub use laws::one_answer;
+pub use laws::one_cut;
+pub use laws::one_list;
+pub use reader::open;

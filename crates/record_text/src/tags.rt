@@ -1,0 +1,30 @@
+// The forms of a tag: `<name>`, `</name>` and `<name/>`.
+ghost use mathlib.Core.Path.{_≡_};
+ghost use Rattle.record_text.specs.Tags.{form};
+ghost use Rattle.record_text.specs.Machine.{tagOf};
+use lexical::is_word;
+
+#[derive(Clone, Copy)]
+pub enum TagForm {
+    Opening,
+    Closing,
+    Alone,
+    Bad,
+}
+
+// The form of a tag, by what stands between its `<` and its `>`.
+pub fn tag_of(body: &[u8]) -> TagForm
+    ensures { λ r. ⌜ r ≡ form (tagOf (now (body .entry))) ⌝ }
+{
+    let n = body.len();
+    if n == 0 {
+        return TagForm::Bad;
+    }
+    if body[0] == b'/' {
+        return if is_word(&body[1..n]) { TagForm::Closing } else { TagForm::Bad };
+    }
+    if body[n - 1] == b'/' {
+        return if is_word(&body[0..n - 1]) { TagForm::Alone } else { TagForm::Bad };
+    }
+    if is_word(body) { TagForm::Opening } else { TagForm::Bad }
+}

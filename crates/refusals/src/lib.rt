@@ -1,0 +1,38 @@
+// The refusals of the checker, each with its number and the place that it names.
+ghost use mathlib.Core.Path.{_≡_};
+ghost use Rattle.refusals.specs.Refusals.{number, places};
+ghost use Rattle.std.specs.Vec.{listOf};
+
+#[derive(Clone, Copy)]
+pub enum Refusal {
+    // a record text whose first item at fault, at this place, does not fit
+    Misfit(usize),
+    // a record text whose next element, at this place, passes the limits
+    Limit(usize),
+    // a lent list that is too short
+    Short,
+    // a program's input that is not of its form
+    Input,
+}
+
+impl Refusal {
+    pub fn number(&self) -> u8
+        ensures { λ r. ⌜ r ≡ number (now (self .entry)) ⌝ }
+    {
+        match self {
+            Refusal::Misfit(_) => 3,
+            Refusal::Limit(_) => 4,
+            Refusal::Short => 6,
+            Refusal::Input => 8,
+        }
+    }
+
+    pub fn place(&self) -> Option<usize>
+        ensures { λ r. ⌜ listOf r ≡ places (now (self .entry)) ⌝ }
+    {
+        match self {
+            Refusal::Misfit(place) | Refusal::Limit(place) => Some(*place),
+            Refusal::Short | Refusal::Input => None,
+        }
+    }
+}
