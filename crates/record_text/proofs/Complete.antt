@@ -1,24 +1,22 @@
 -- What the grammar derives, the reader of items passes.
-use mathlib.Core.Bool.{Bool, true, false, cond, _&&_, false≢true}
+use mathlib.Core.Bool.{Bool, true, false, cond, false≢true}
 use mathlib.Core.List.{List, [], _∷_, _++_, append-assoc}
 use mathlib.Core.Option.{Option, some, none}
 use mathlib.Core.Path.{_≡_, refl, sym, ap, subst, _∙_}
-use Prim.Native.Nat.{ℕ, zero, suc, _+_, _-_, _<_, suc-le-suc}
+use Prim.Native.Nat.{ℕ, zero, suc, _+_, _-_, _<_}
 use native.Mathlib.Omega.{arith}
 use lib.Dec.{eqb, leb}
-use lib.IntN.{ℤ}
-use lib.ListN.{length, getD, take, drop, length-append}
+use lib.ListN.{length, getD, length-append}
 use Rattle.std.proofs.shelf.Tests.{ne-eqb, eq-eqb, and-parts}
 use Rattle.std.proofs.shelf.Lists.{getD-at, take-at, length-push}
 use Rattle.record_text.specs.declared.entry.Entry.{Entry}
 use Rattle.lexical.specs.declared.kinds.Kind.{Kind}
 use Rattle.lexical.specs.declared.kinds.Kind.the-variants.{Letter, Digit, Hyphen, Point, Less, Greater, Slash, Blank, Other}
-use Rattle.lexical.specs.Kinds.{kind, kind-rule}
+use Rattle.lexical.specs.Kinds.{kind}
 use Rattle.lexical.specs.Words.{longest-word, word, spelled, begins-word, continues-word, all}
-use Rattle.lexical.specs.Numbers.{Number, number}
 use Rattle.lexical.proofs.NumberFacts.{number-rule}
-use Rattle.record_text.specs.Grammar.{Item, gap, tag, num, stray, lone, bytes, text, size, opening, closing, alone, Blanks, no-blank, one-more, Content, nothing, blank, element, Element, hollow, around, holding}
-use Rattle.record_text.specs.Machine.{named, move-num, Open, Held, blanks, elements, value, Shape, shape, opened, Tag, opens, closes, whole, bad, tagOf, same, close, free, move-tag, move, after, runs}
+use Rattle.record_text.specs.Grammar.{Item, gap, num, bytes, text, size, opening, closing, alone, Blanks, no-blank, one-more, Content, nothing, blank, element, Element, hollow, around, holding}
+use Rattle.record_text.specs.Machine.{named, move-num, Open, Held, blanks, elements, value, Shape, shape, opened, Tag, opens, closes, whole, tagOf, same, free, move-tag, move, after, runs}
 
 abbrev pub Free : Held → Type 0
 Free blanks = Unit {0}
@@ -149,35 +147,37 @@ to-shape m n up h e = ap (λ k. some (shape k up h)) e
 
 mutual
   pub content-run : {p d : ℕ} {is : List Item} {es : List Entry} → Content p d is es → (n : ℕ) (up : List Open) (h : Held) → Free h →
-    (h′ : Held) × Free h′ × (runs p (shape n up h) is ≡ some (shape (n + length es) up h′))
+      (h′ : Held) × Free h′ × (runs p (shape n up h) is ≡ some (shape (n + length es) up h′))
   content-run nothing n up h f = (h, f, to-shape n (n + 0) up h (omega arith))
   content-run (blank {p} {d} {is} {es} c b k) n up h f =
-    let r = content-run c n up h f in
-    (r .0, r .1, runs-++ p (shape n up h) is (gap b ∷ []) _ (r .2))
+      let r = content-run c n up h f in
+      (r .0, r .1, runs-++ p (shape n up h) is (gap b ∷ []) _ (r .2))
   content-run (element {p} {d} {is} {es} {js} {fs} c e) n up h f =
-    let r = content-run c n up h f in
-    (elements, tt,
-      runs-++ p (shape n up h) is js _ (r .2) ∙ (element-run e (n + length es) up (r .0) (r .1)
-      ∙ to-shape ((n + length es) + length fs) (n + length (es ++ fs)) up elements (omega (arith, length-append es fs))))
+      let r = content-run c n up h f in (
+        elements,
+        tt,
+        runs-++ p (shape n up h) is js _ (r .2) ∙ (element-run e (n + length es) up (r .0) (r .1)
+            ∙ to-shape ((n + length es) + length fs) (n + length (es ++ fs)) up elements (omega (arith, length-append es fs))),
+      )
 
   pub element-run : {p d : ℕ} {js : List Item} {fs : List Entry} → Element p d js fs → (n : ℕ) (up : List Open) (h : Held) → Free h →
-    runs p (shape n up h) js ≡ some (shape (n + length fs) up elements)
+      runs p (shape n up h) js ≡ some (shape (n + length fs) up elements)
   element-run (hollow {p} w k) n up h f = runs-∷ p _ _ (alone w) [] (alone-move p n up h w k f)
   element-run (around {p} {d} {is} {es} w k c) n up h f =
-    let q : ℕ = p + length (bytes (opening w)) in
-    let o : Open = opened w p n in
-    let r = content-run c (n + 1) (o ∷ up) blanks tt in
-    runs-∷ p (shape n up h) (shape (n + 1) (o ∷ up) blanks) (opening w) (is ++ closing w ∷ []) (open-move p n up h w k f)
-    ∙ (runs-++ q (shape (n + 1) (o ∷ up) blanks) is (closing w ∷ []) _ (r .2)
-    ∙ (runs-∷ (q + size is) (shape (n + 1 + length es) (o ∷ up) (r .0)) (shape (n + 1 + length es) up elements) (closing w) [] (close-move (q + size is) (n + 1 + length es) up (r .0) w k p n)
-    ∙ to-shape (n + 1 + length es) _ up elements (omega arith)))
+      let q : ℕ = p + length (bytes (opening w)) in
+      let o : Open = opened w p n in
+      let r = content-run c (n + 1) (o ∷ up) blanks tt in
+      runs-∷ p (shape n up h) (shape (n + 1) (o ∷ up) blanks) (opening w) (is ++ closing w ∷ []) (open-move p n up h w k f)
+      ∙ (runs-++ q (shape (n + 1) (o ∷ up) blanks) is (closing w ∷ []) _ (r .2)
+      ∙ (runs-∷ (q + size is) (shape (n + 1 + length es) (o ∷ up) (r .0)) (shape (n + 1 + length es) up elements) (closing w) [] (close-move (q + size is) (n + 1 + length es) up (r .0) w k p n)
+      ∙ to-shape (n + 1 + length es) _ up elements (omega arith)))
   element-run (holding {p} {d} {bs} {cs} w k B ds v e C) n up h f =
-    let q : ℕ = p + length (bytes (opening w)) in
-    let o : Open = opened w p n in
-    let s : Shape = shape (n + 1) (o ∷ up) blanks in
-    let s′ : Shape = shape (n + 1) (o ∷ up) (value v) in
-    runs-∷ p (shape n up h) s (opening w) (bs ++ num ds ∷ (cs ++ closing w ∷ [])) (open-move p n up h w k f)
-    ∙ (runs-++ q s bs (num ds ∷ (cs ++ closing w ∷ [])) s (blanks-run B q s)
-    ∙ (runs-∷ (q + size bs) s s′ (num ds) (cs ++ closing w ∷ []) (ap (move-num s blanks) (number-rule ds v .1 e))
-    ∙ (runs-++ (q + size bs + length ds) s′ cs (closing w ∷ []) s′ (blanks-run C _ s′)
-    ∙ (runs-∷ (q + size bs + length ds + size cs) s′ (shape (n + 1) up elements) (closing w) [] (close-move (q + size bs + length ds + size cs) (n + 1) up (value v) w k p n)))))
+      let q : ℕ = p + length (bytes (opening w)) in
+      let o : Open = opened w p n in
+      let s : Shape = shape (n + 1) (o ∷ up) blanks in
+      let s′ : Shape = shape (n + 1) (o ∷ up) (value v) in
+      runs-∷ p (shape n up h) s (opening w) (bs ++ num ds ∷ (cs ++ closing w ∷ [])) (open-move p n up h w k f)
+      ∙ (runs-++ q s bs (num ds ∷ (cs ++ closing w ∷ [])) s (blanks-run B q s)
+      ∙ (runs-∷ (q + size bs) s s′ (num ds) (cs ++ closing w ∷ []) (ap (move-num s blanks) (number-rule ds v .1 e))
+      ∙ (runs-++ (q + size bs + length ds) s′ cs (closing w ∷ []) s′ (blanks-run C _ s′)
+      ∙ (runs-∷ (q + size bs + length ds + size cs) s′ (shape (n + 1) up elements) (closing w) [] (close-move (q + size bs + length ds + size cs) (n + 1) up (value v) w k p n)))))

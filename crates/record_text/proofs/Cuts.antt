@@ -1,26 +1,21 @@
 -- What the grammar derives is cut into its own items.
-use mathlib.Core.Bool.{Bool, true, false, cond, not, _||_, _&&_, false≢true}
-use mathlib.Core.List.{List, [], _∷_, _++_, append-assoc, append-nil}
-use mathlib.Core.Option.{Option, some, none}
-use mathlib.Core.Logic.{_⊎_, inl, inr}
+use mathlib.Core.Bool.{true, false≢true}
+use mathlib.Core.List.{List, [], _∷_, _++_, append-assoc}
 use mathlib.Core.Path.{_≡_, refl, sym, ap, subst, _∙_}
-use Prim.Native.Nat.{ℕ, _+_, _-_, _*_, _<_, _≤_}
+use Prim.Native.Nat.{ℕ, _+_, _-_, _<_}
 use native.Mathlib.Omega.{arith}
-use lib.Dec.{eqb, leb, ltb}
 use lib.IntN.{ℤ}
 use lib.ListN.{length}
 use Rattle.std.proofs.shelf.Tests.{and-parts}
 use Rattle.record_text.specs.declared.entry.Entry.{Entry}
 use Rattle.lexical.specs.declared.kinds.Kind.{Kind}
 use Rattle.lexical.specs.declared.kinds.Kind.the-variants.{Letter, Digit, Hyphen, Point, Less, Greater, Slash, Blank, Other}
-use Rattle.std.specs.declared.option.Option.{Option as Maybe}
-use Rattle.std.specs.declared.option.Option.the-variants.{Some, None}
 use Rattle.lexical.specs.Kinds.{kind}
 use Rattle.lexical.specs.Words.{word, continues-word, all}
 use Rattle.lexical.specs.Numbers.{Number, figure-kind}
 use Rattle.lexical.proofs.NumberFacts.{number-kinds}
-use Rattle.record_text.specs.Grammar.{Item, gap, tag, num, stray, lone, bytes, text, opening, closing, alone, Blanks, no-blank, one-more, Content, nothing, blank, element, Element, hollow, around, holding}
-use Rattle.record_text.specs.Items.{Role, space, less, greater, figure, plain, of-kind, role, Figures, NoGreater, NotEmpty, Quits, Stray, Ends, Cut}
+use Rattle.record_text.specs.Grammar.{Item, gap, num, text, closing, Blanks, no-blank, one-more, Content, nothing, blank, element, Element, hollow, around, holding}
+use Rattle.record_text.specs.Items.{space, less, greater, figure, plain, of-kind, role, Figures, NoGreater, NotEmpty, Quits, Cut}
 use Rattle.record_text.proofs.Complete.{name-byte, word-all}
 use Rattle.record_text.proofs.Lex.{differ}
 
@@ -105,9 +100,9 @@ mutual
   pub element-cut : {p d : ℕ} {is : List Item} {es : List Entry} → Element p d is es → (js : List Item) → Cut js → Cut (is ++ js)
   element-cut (hollow w e) js k = (push-slash w (word-no-greater w e), k)
   element-cut (around {is = is} w e c) js k =
-    (word-no-greater w e, at-cut _ _ (sym (append-assoc is (closing w ∷ []) js)) (content-cut c (closing w ∷ js) ((slash-role, word-no-greater w e), k)))
+      (word-no-greater w e, at-cut _ _ (sym (append-assoc is (closing w ∷ []) js)) (content-cut c (closing w ∷ js) ((slash-role, word-no-greater w e), k)))
   element-cut (holding {bs = bs} {cs} w e B ds v x C) js k =
-    let f = number-figures ds v x in
-    let ends : Cut (closing w ∷ js) = ((slash-role, word-no-greater w e), k) in
-    let tail : Cut (num ds ∷ (cs ++ closing w ∷ js)) = ((f .0, f .1, blanks-quit C (closing w ∷ js) less-quits), blanks-cut C (closing w ∷ js) ends) in
-    (word-no-greater w e, at-cut (bs ++ num ds ∷ (cs ++ closing w ∷ js)) _ (simp append-assoc) (blanks-cut B _ tail))
+      let f = number-figures ds v x in
+      let ends : Cut (closing w ∷ js) = ((slash-role, word-no-greater w e), k) in
+      let tail : Cut (num ds ∷ (cs ++ closing w ∷ js)) = ((f .0, f .1, blanks-quit C (closing w ∷ js) less-quits), blanks-cut C (closing w ∷ js) ends) in
+      (word-no-greater w e, at-cut (bs ++ num ds ∷ (cs ++ closing w ∷ js)) _ (simp append-assoc) (blanks-cut B _ tail))

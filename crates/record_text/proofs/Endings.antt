@@ -38,8 +38,8 @@ still-open t os p n h = some-open p n (ups t os) (omega (arith, ups-length t os)
 module _ (t : List ℕ) (c : Cutter) (z : c .at ≡ length t) (s : Shape) where
   ended-in : (st : State) → c .state ≡ st → check (from c) s (left t c) ≡ check (from-at (c .at) st) s (lex (phase-at t (c .at) st) [])
   ended-in st e =
-    ap (λ x. check (from-at (c .at) x) s (lex (phase-at t (c .at) x) (drop (c .at) t))) e
-    ∙ ap (λ u. check (from-at (c .at) st) s (lex (phase-at t (c .at) st) u)) (drop-all (c .at) t (omega arith))
+      ap (λ x. check (from-at (c .at) x) s (lex (phase-at t (c .at) x) (drop (c .at) t))) e
+      ∙ ap (λ u. check (from-at (c .at) st) s (lex (phase-at t (c .at) st) u)) (drop-all (c .at) t (omega arith))
 
   pub ended-between : c .state ≡ state.Between → check (from c) s (left t c) ≡ at-end (length t) (s .nodes) (s .up)
   ended-between e = ended-in state.Between e ∙ ap (λ p. at-end p (s .nodes) (s .up)) z
@@ -54,12 +54,12 @@ module _ (t : List ℕ) (c : Cutter) (z : c .at ≡ length t) (s : Shape) where
 
     ended-on : start < c .at → move start s (num (part t start (c .at))) ≡ some s₁ → check (from c) s (left t c) ≡ at-end (length t) (s₁ .nodes) (s₁ .up)
     ended-on h m =
-      let n = part-length t start (c .at) (omega arith) (omega arith) in
-      let y : start + length (part t start (c .at)) ≡ length t = omega arith in
-      ended-in (state.Number start) e ∙ (check-on start s (num (part t start (c .at))) [] s₁ refl m ∙ ap (λ p. at-end p (s₁ .nodes) (s₁ .up)) y)
+        let n = part-length t start (c .at) (omega arith) (omega arith) in
+        let y : start + length (part t start (c .at)) ≡ length t = omega arith in
+        ended-in (state.Number start) e ∙ (check-on start s (num (part t start (c .at))) [] s₁ refl m ∙ ap (λ p. at-end p (s₁ .nodes) (s₁ .up)) y)
 
     pub ended-number : GoodAt (c .at) (c .state) → (r : Turn) → ((q : ℕ) → r ≡ turn.Misfit q → ⊥) → Went start s (num (part t start (c .at))) s₁ r →
-      check (from c) s (left t c) ≡ at-end (length t) (s₁ .nodes) (s₁ .up)
+        check (from c) s (left t c) ≡ at-end (length t) (s₁ .nodes) (s₁ .up)
     ended-number g turn.On f w = ended-on (subst (GoodAt (c .at)) e g) (w .1)
     ended-number g (turn.Done n x) f w = ended-on (subst (GoodAt (c .at)) e g) (w .1)
     ended-number g (turn.Misfit q) f w = absurd (f q refl)

@@ -1,7 +1,7 @@
 -- The entries that a pass writes are those of the grammar.
 use mathlib.Core.Bool.{true}
 use mathlib.Core.List.{List, [], _∷_, _++_, append-assoc}
-use mathlib.Core.Option.{Option, some, none}
+use mathlib.Core.Option.{some}
 use mathlib.Core.Path.{_≡_, refl, sym, ap, _∙_}
 use Prim.Native.Nat.{ℕ, suc, _+_, _≤_}
 use native.Mathlib.Omega.{arith}
@@ -13,7 +13,7 @@ use Rattle.lexical.proofs.NumberFacts.{number-rule}
 use Rattle.record_text.specs.declared.entry.Entry.{Entry}
 use Rattle.record_text.specs.Entries.{branch, leaf}
 use Rattle.record_text.specs.Grammar.{Item, gap, num, bytes, text, size, opening, closing, alone, Blanks, no-blank, one-more, Content, nothing, blank, element, Element, hollow, around, holding}
-use Rattle.record_text.specs.Machine.{Open, Held, blanks, elements, value, Shape, shape, opened, Tag, move-num, move, after, runs}
+use Rattle.record_text.specs.Machine.{Open, Held, blanks, elements, value, Shape, shape, opened, Tag, move-num, move, runs}
 use Rattle.record_text.specs.Pass.{Done, entry-of, done-by-tag, done-by, done-after, done, written}
 use Rattle.record_text.proofs.Sound.{after-some}
 use Rattle.record_text.proofs.Read.{some-same}
@@ -104,68 +104,68 @@ entry-free o (value v) q n d f = absurd f
 
 mutual
   pub content-fill : {p d : ℕ} {is : List Item} {es : List Entry} → Content p d is es → (n : ℕ) (up : List Open) (h : Held) → Free h → length up ≡ d →
-    (A B : List Entry) → length A ≡ n → length es ≤ length B → fills p (shape n up h) is (A ++ B) ≡ over-write A es B
+      (A B : List Entry) → length A ≡ n → length es ≤ length B → fills p (shape n up h) is (A ++ B) ≡ over-write A es B
   content-fill nothing n up h f u A B a b = refl
   content-fill (blank {p} {d} {is} {es} c b′ k) n up h f u A B a b =
-    let r = content-run c n up h f in
-    fills-++ p (shape n up h) _ is (gap b′ ∷ []) (A ++ B) (r .2) ∙ content-fill c n up h f u A B a b
+      let r = content-run c n up h f in
+      fills-++ p (shape n up h) _ is (gap b′ ∷ []) (A ++ B) (r .2) ∙ content-fill c n up h f u A B a b
   content-fill (element {p} {d} {is} {es} {js} {fs} c e) n up h f u A B a b =
-    let r = content-run c n up h f in
-    let l : length (es ++ fs) ≡ length es + length fs = length-append es fs in
-    let a′ : length (A ++ es) ≡ n + length es = omega (arith, length-append A es) in
-    let b′ : length fs ≤ length (drop (length es) B) = omega (arith, length-drop (length es) B) in
-    fills-++ p (shape n up h) _ is js (A ++ B) (r .2)
-    ∙ (ap (λ x. fills (p + size is) (shape (n + length es) up (r .0)) js x) (content-fill c n up h f u A B a (omega arith) ∙ sym (append-assoc A es (drop (length es) B)))
-    ∙ (element-fill e (n + length es) up (r .0) (r .1) u (A ++ es) (drop (length es) B) a′ b′
-    ∙ (ap (λ x. (A ++ es) ++ (fs ++ x)) (drop-drop (length fs) (length es) B ∙ ap (λ m. drop m B) (sym l))
-    ∙ simp append-assoc)))
+      let r = content-run c n up h f in
+      let l : length (es ++ fs) ≡ length es + length fs = length-append es fs in
+      let a′ : length (A ++ es) ≡ n + length es = omega (arith, length-append A es) in
+      let b′ : length fs ≤ length (drop (length es) B) = omega (arith, length-drop (length es) B) in
+      fills-++ p (shape n up h) _ is js (A ++ B) (r .2)
+      ∙ (ap (λ x. fills (p + size is) (shape (n + length es) up (r .0)) js x) (content-fill c n up h f u A B a (omega arith) ∙ sym (append-assoc A es (drop (length es) B)))
+      ∙ (element-fill e (n + length es) up (r .0) (r .1) u (A ++ es) (drop (length es) B) a′ b′
+      ∙ (ap (λ x. (A ++ es) ++ (fs ++ x)) (drop-drop (length fs) (length es) B ∙ ap (λ m. drop m B) (sym l))
+      ∙ simp append-assoc)))
 
   element-fill : {p d : ℕ} {js : List Item} {fs : List Entry} → Element p d js fs → (n : ℕ) (up : List Open) (h : Held) → Free h → length up ≡ d →
-    (A B : List Entry) → length A ≡ n → length fs ≤ length B → fills p (shape n up h) js (A ++ B) ≡ over-write A fs B
+      (A B : List Entry) → length A ≡ n → length fs ≤ length B → fills p (shape n up h) js (A ++ B) ≡ over-write A fs B
   element-fill (hollow w k) n up h f u A [] a b = absurd (omega arith)
   element-fill (hollow {p} {d} w k) n up h f u A (x ∷ B) a b =
-    let z : length (bytes (alone w)) ≡ size (alone w ∷ []) = size-one (alone w) in
-    fills-∷ p (shape n up h) _ (alone w) [] (A ++ x ∷ B) (alone-move p n up h w k f)
-    ∙ (alone-put p n up h w k (A ++ x ∷ B)
-    ∙ replaced A x B n a _ _ (branch-at p (length w) (p + length (bytes (alone w))) (p + size (alone w ∷ [])) (length up) d (omega arith) u))
+      let z : length (bytes (alone w)) ≡ size (alone w ∷ []) = size-one (alone w) in
+      fills-∷ p (shape n up h) _ (alone w) [] (A ++ x ∷ B) (alone-move p n up h w k f)
+      ∙ (alone-put p n up h w k (A ++ x ∷ B)
+      ∙ replaced A x B n a _ _ (branch-at p (length w) (p + length (bytes (alone w))) (p + size (alone w ∷ [])) (length up) d (omega arith) u))
   element-fill (around w k c) n up h f u A [] a b = absurd (omega arith)
   element-fill (around {p} {d} {is} {es} w k c) n up h f u A (x ∷ B) a b =
-    let q : ℕ = p + length (bytes (opening w)) in
-    let o : Open = opened w p n in
-    let l : List Entry = A ++ x ∷ B in
-    let r = content-run c (n + 1) (o ∷ up) blanks tt in
-    let m : ℕ = n + 1 + length es in
-    let a′ : length (A ++ x ∷ []) ≡ n + 1 = omega (arith, length-push A x) in
-    let R : List Entry = es ++ drop (length es) B in
-    let z = size-around w is in
-    fills-∷ p (shape n up h) (shape (n + 1) (o ∷ up) blanks) (opening w) (is ++ closing w ∷ []) l (open-move p n up h w k f)
-    ∙ (ap (λ y. fills q (shape (n + 1) (o ∷ up) blanks) (is ++ closing w ∷ []) y) (open-put p n up h w k l)
-    ∙ (fills-++ q (shape (n + 1) (o ∷ up) blanks) (shape m (o ∷ up) (r .0)) is (closing w ∷ []) l (r .2)
-    ∙ (ap (λ y. fills (q + size is) (shape m (o ∷ up) (r .0)) (closing w ∷ []) y)
-        (ap (λ y. fills q (shape (n + 1) (o ∷ up) blanks) is y) (sym (append-assoc A (x ∷ []) B))
-        ∙ (content-fill c (n + 1) (o ∷ up) blanks tt (ap suc u) (A ++ x ∷ []) B a′ (omega arith) ∙ append-assoc A (x ∷ []) R))
-    ∙ (fills-∷ (q + size is) (shape m (o ∷ up) (r .0)) (shape m up elements) (closing w) [] (A ++ x ∷ R) (close-move (q + size is) m up (r .0) w k p n)
-    ∙ (close-put (q + size is) m up (r .0) w k (A ++ x ∷ R) p n
-    ∙ replaced A x R n a _ _ (entry-free o (r .0) _ _ _ (r .1)
+      let q : ℕ = p + length (bytes (opening w)) in
+      let o : Open = opened w p n in
+      let l : List Entry = A ++ x ∷ B in
+      let r = content-run c (n + 1) (o ∷ up) blanks tt in
+      let m : ℕ = n + 1 + length es in
+      let a′ : length (A ++ x ∷ []) ≡ n + 1 = omega (arith, length-push A x) in
+      let R : List Entry = es ++ drop (length es) B in
+      let z = size-around w is in
+      fills-∷ p (shape n up h) (shape (n + 1) (o ∷ up) blanks) (opening w) (is ++ closing w ∷ []) l (open-move p n up h w k f)
+      ∙ (ap (λ y. fills q (shape (n + 1) (o ∷ up) blanks) (is ++ closing w ∷ []) y) (open-put p n up h w k l)
+      ∙ (fills-++ q (shape (n + 1) (o ∷ up) blanks) (shape m (o ∷ up) (r .0)) is (closing w ∷ []) l (r .2)
+      ∙ (ap (λ y. fills (q + size is) (shape m (o ∷ up) (r .0)) (closing w ∷ []) y)
+      (ap (λ y. fills q (shape (n + 1) (o ∷ up) blanks) is y) (sym (append-assoc A (x ∷ []) B))
+      ∙ (content-fill c (n + 1) (o ∷ up) blanks tt (ap suc u) (A ++ x ∷ []) B a′ (omega arith) ∙ append-assoc A (x ∷ []) R))
+      ∙ (fills-∷ (q + size is) (shape m (o ∷ up) (r .0)) (shape m up elements) (closing w) [] (A ++ x ∷ R) (close-move (q + size is) m up (r .0) w k p n)
+      ∙ (close-put (q + size is) m up (r .0) w k (A ++ x ∷ R) p n
+      ∙ replaced A x R n a _ _ (entry-free o (r .0) _ _ _ (r .1)
       ∙ branch-at p (length w) (q + size is + length (bytes (closing w))) (p + size (opening w ∷ (is ++ closing w ∷ []))) (length up) d (omega arith) u))))))
   element-fill (holding w k P ds v e C) n up h f u A [] a b = absurd (omega arith)
   element-fill (holding {p} {d} {bs} {cs} w k P ds v e C) n up h f u A (x ∷ B) a b =
-    let q : ℕ = p + length (bytes (opening w)) in
-    let o : Open = opened w p n in
-    let l : List Entry = A ++ x ∷ B in
-    let s : Shape = shape (n + 1) (o ∷ up) blanks in
-    let s′ : Shape = shape (n + 1) (o ∷ up) (value v) in
-    let q₁ : ℕ = q + size bs in
-    let q₂ : ℕ = q₁ + length ds in
-    let q₃ : ℕ = q₂ + size cs in
-    let z = size-holding w bs ds cs in
-    fills-∷ p (shape n up h) s (opening w) (bs ++ num ds ∷ (cs ++ closing w ∷ [])) l (open-move p n up h w k f)
-    ∙ (ap (λ y. fills q s (bs ++ num ds ∷ (cs ++ closing w ∷ [])) y) (open-put p n up h w k l)
-    ∙ (fills-++ q s s bs (num ds ∷ (cs ++ closing w ∷ [])) l (blanks-run P q s)
-    ∙ (ap (λ y. fills q₁ s (num ds ∷ (cs ++ closing w ∷ [])) y) (blanks-fill P q s l)
-    ∙ (fills-∷ q₁ s s′ (num ds) (cs ++ closing w ∷ []) l (ap (move-num s blanks) (number-rule ds v .1 e))
-    ∙ (fills-++ q₂ s′ s′ cs (closing w ∷ []) l (blanks-run C q₂ s′)
-    ∙ (ap (λ y. fills q₃ s′ (closing w ∷ []) y) (blanks-fill C q₂ s′ l)
-    ∙ (fills-∷ q₃ s′ (shape (n + 1) up elements) (closing w) [] l (close-move q₃ (n + 1) up (value v) w k p n)
-    ∙ (close-put q₃ (n + 1) up (value v) w k l p n
-    ∙ replaced A x B n a _ _ (leaf-at p (length w) v (q₃ + length (bytes (closing w))) (p + size (opening w ∷ (bs ++ num ds ∷ (cs ++ closing w ∷ [])))) (length up) d (omega arith) u)))))))))
+      let q : ℕ = p + length (bytes (opening w)) in
+      let o : Open = opened w p n in
+      let l : List Entry = A ++ x ∷ B in
+      let s : Shape = shape (n + 1) (o ∷ up) blanks in
+      let s′ : Shape = shape (n + 1) (o ∷ up) (value v) in
+      let q₁ : ℕ = q + size bs in
+      let q₂ : ℕ = q₁ + length ds in
+      let q₃ : ℕ = q₂ + size cs in
+      let z = size-holding w bs ds cs in
+      fills-∷ p (shape n up h) s (opening w) (bs ++ num ds ∷ (cs ++ closing w ∷ [])) l (open-move p n up h w k f)
+      ∙ (ap (λ y. fills q s (bs ++ num ds ∷ (cs ++ closing w ∷ [])) y) (open-put p n up h w k l)
+      ∙ (fills-++ q s s bs (num ds ∷ (cs ++ closing w ∷ [])) l (blanks-run P q s)
+      ∙ (ap (λ y. fills q₁ s (num ds ∷ (cs ++ closing w ∷ [])) y) (blanks-fill P q s l)
+      ∙ (fills-∷ q₁ s s′ (num ds) (cs ++ closing w ∷ []) l (ap (move-num s blanks) (number-rule ds v .1 e))
+      ∙ (fills-++ q₂ s′ s′ cs (closing w ∷ []) l (blanks-run C q₂ s′)
+      ∙ (ap (λ y. fills q₃ s′ (closing w ∷ []) y) (blanks-fill C q₂ s′ l)
+      ∙ (fills-∷ q₃ s′ (shape (n + 1) up elements) (closing w) [] l (close-move q₃ (n + 1) up (value v) w k p n)
+      ∙ (close-put q₃ (n + 1) up (value v) w k l p n
+      ∙ replaced A x B n a _ _ (leaf-at p (length w) v (q₃ + length (bytes (closing w))) (p + size (opening w ∷ (bs ++ num ds ∷ (cs ++ closing w ∷ [])))) (length up) d (omega arith) u)))))))))

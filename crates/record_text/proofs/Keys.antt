@@ -1,14 +1,13 @@
 -- What the arms of the match say of the byte's kind.
-use mathlib.Core.List.{List, [], _∷_}
-use mathlib.Core.Path.{_≡_, refl, sym, ap, subst, _∙_}
+use mathlib.Core.List.{[], _∷_}
+use mathlib.Core.Path.{_≡_, refl}
 use native.Mathlib.Omega.{arith}
-use Prim.Native.Nat.{ℕ}
 use types.Run.{OneOf}
 use denote.Enum.Declared.{tagOf}
 use Rattle.lexical.specs.contracts.kinds.Kind.{the-type}
 use Rattle.lexical.specs.declared.kinds.Kind.{Kind}
 use Rattle.lexical.specs.declared.kinds.Kind.the-variants.{Letter, Digit, Hyphen, Point, Less, Greater, Slash, Blank, Other}
-use Rattle.record_text.specs.Items.{Role, space, less, greater, figure, plain, of-kind, Stray}
+use Rattle.record_text.specs.Items.{space, less, greater, figure, plain, of-kind, Stray}
 use Rattle.record_text.proofs.Lex.{differ}
 
 pub figure-key : (k : Kind) → OneOf (1 ∷ (2 ∷ (3 ∷ []))) (tagOf the-type k) → of-kind k ≡ figure

@@ -1,17 +1,15 @@
 -- A text is cut into items in one way, by one pass.
-use mathlib.Core.Bool.{Bool, true, false, cond, not, _||_}
+use mathlib.Core.Bool.{Bool, true, false, cond, not}
 use mathlib.Core.List.{List, [], _∷_, _++_, append-assoc, append-nil}
 use mathlib.Core.Path.{_≡_, refl, sym, ap, subst, _∙_}
 use Prim.Native.Nat.{ℕ}
-use native.Mathlib.Omega.{arith}
 use lib.Dec.{eqb, T, T-not, eqb-refl}
 use Rattle.std.proofs.shelf.Tests.{eqb-true}
-use Rattle.lexical.specs.declared.kinds.Kind.{Kind}
 use Rattle.lexical.specs.declared.kinds.Kind.the-variants.{Letter, Digit, Hyphen, Point, Less, Greater, Slash, Blank, Other}
 use Rattle.lexical.specs.Kinds.{kind, letter, digit, blank}
-use Rattle.record_text.specs.Grammar.{Item, gap, tag, num, stray, lone, bytes, text}
+use Rattle.record_text.specs.Grammar.{Item, gap, tag, num, stray, lone, text}
 pub use Rattle.record_text.specs.Machine.{Phase, idle, in-tag, in-num, lex, items}
-use Rattle.record_text.specs.Items.{Role, space, less, greater, figure, plain, of-kind, role, Figures, NoGreater, NotEmpty, Quits, Stray, Ends, Cut}
+use Rattle.record_text.specs.Items.{Role, space, less, greater, figure, plain, of-kind, role, Figures, NoGreater, NotEmpty, Quits, Stray, Cut}
 
 -- the bytes `<` and `>` are alone in their roles
 abbrev code : Role → ℕ
@@ -166,34 +164,34 @@ module _ (b : ℕ) (t : List ℕ) (ih : (ph : Phase) → Ok-so-far ph → Cuts (
 
   go-on-tag : (bs : List ℕ) → NoGreater bs → (role b ≡ greater → ⊥) → Cuts ((60 ∷ bs) ++ b ∷ t) (lex (in-tag (bs ++ b ∷ [])) t)
   go-on-tag bs k h =
-    let r = ih (in-tag (bs ++ b ∷ [])) (no-greater-push bs b k h) in
-    (r .0 ∙ append-assoc (60 ∷ bs) (b ∷ []) t, r .1)
+      let r = ih (in-tag (bs ++ b ∷ [])) (no-greater-push bs b k h) in
+      (r .0 ∙ append-assoc (60 ∷ bs) (b ∷ []) t, r .1)
 
   step-tag : (bs : List ℕ) → NoGreater bs → (r : Role) → role b ≡ r → Cuts ((60 ∷ bs) ++ b ∷ t) (at-tag r bs b t)
   step-tag bs k space e = go-on-tag bs k (λ h. differ space greater tt (sym e ∙ h))
   step-tag bs k less e = go-on-tag bs k (λ h. differ less greater tt (sym e ∙ h))
   step-tag bs k greater e =
-    let r = ih idle tt in
-    (append-assoc (60 ∷ bs) (62 ∷ []) (text (lex idle t)) ∙ (ap (λ x. (60 ∷ bs) ++ 62 ∷ x) (r .0) ∙ ap (λ c. (60 ∷ bs) ++ c ∷ t) (sym (greater-is b e))), (k, r .1))
+      let r = ih idle tt in
+      (append-assoc (60 ∷ bs) (62 ∷ []) (text (lex idle t)) ∙ (ap (λ x. (60 ∷ bs) ++ 62 ∷ x) (r .0) ∙ ap (λ c. (60 ∷ bs) ++ c ∷ t) (sym (greater-is b e))), (k, r .1))
   step-tag bs k figure e = go-on-tag bs k (λ h. differ figure greater tt (sym e ∙ h))
   step-tag bs k plain e = go-on-tag bs k (λ h. differ plain greater tt (sym e ∙ h))
 
   step-num : (ds : List ℕ) → NotEmpty ds → Figures ds → (r : Role) → role b ≡ r → Cuts (ds ++ b ∷ t) (at-num r ds b t)
   step-num ds n k space e =
-    let r = step-idle space e in
-    (ap (λ x. ds ++ x) (r .0), ((n, k, λ h. differ space figure tt (sym e ∙ h)), r .1))
+      let r = step-idle space e in
+      (ap (λ x. ds ++ x) (r .0), ((n, k, λ h. differ space figure tt (sym e ∙ h)), r .1))
   step-num ds n k less e =
-    let r = after-less e in
-    (ap (λ x. ds ++ x) (r .0), ((n, k, subst Quits (sym (r .0)) (λ h. differ less figure tt (sym e ∙ h))), r .1))
+      let r = after-less e in
+      (ap (λ x. ds ++ x) (r .0), ((n, k, subst Quits (sym (r .0)) (λ h. differ less figure tt (sym e ∙ h))), r .1))
   step-num ds n k greater e =
-    let r = step-idle greater e in
-    (ap (λ x. ds ++ x) (r .0), ((n, k, λ h. differ greater figure tt (sym e ∙ h)), r .1))
+      let r = step-idle greater e in
+      (ap (λ x. ds ++ x) (r .0), ((n, k, λ h. differ greater figure tt (sym e ∙ h)), r .1))
   step-num ds n k figure e =
-    let r = ih (in-num (ds ++ b ∷ [])) (not-empty-push ds b, figures-push ds b k e) in
-    (r .0 ∙ append-assoc ds (b ∷ []) t, r .1)
+      let r = ih (in-num (ds ++ b ∷ [])) (not-empty-push ds b, figures-push ds b k e) in
+      (r .0 ∙ append-assoc ds (b ∷ []) t, r .1)
   step-num ds n k plain e =
-    let r = step-idle plain e in
-    (ap (λ x. ds ++ x) (r .0), ((n, k, λ h. differ plain figure tt (sym e ∙ h)), r .1))
+      let r = step-idle plain e in
+      (ap (λ x. ds ++ x) (r .0), ((n, k, λ h. differ plain figure tt (sym e ∙ h)), r .1))
 
 pub lex-cut : (ph : Phase) (t : List ℕ) → Ok-so-far ph → Cuts (pending ph ++ t) (lex ph t)
 lex-cut idle [] k = (refl, tt)

@@ -1,9 +1,9 @@
 -- The open tags, last in, first out, and the moves of the reader of items.
-use mathlib.Core.Bool.{Bool, true, false, cond, _||_, false≢true}
+use mathlib.Core.Bool.{Bool, true, false, cond}
 use mathlib.Core.List.{List, [], _∷_, _++_}
 use mathlib.Core.Option.{Option, some, none}
 use mathlib.Core.Path.{_≡_, refl, sym, ap, _∙_}
-use Prim.Native.Nat.{ℕ, suc, _+_, _<_, _≤_}
+use Prim.Native.Nat.{ℕ, _+_, _<_}
 use native.Mathlib.Omega.{arith}
 use lib.Dec.{leb, ltb}
 use lib.IntN.{ℤ}
@@ -15,7 +15,7 @@ use Rattle.record_text.specs.declared.nest.OpenTag.{OpenTag}
 use Rattle.record_text.specs.declared.nest.Held.the-variants as code
 use Rattle.record_text.specs.Entries.{branch}
 use Rattle.record_text.specs.Limits.{most-nodes, most-levels}
-use Rattle.record_text.specs.Machine.{Open, Shape, shape, elements, Held, same, close, free}
+use Rattle.record_text.specs.Machine.{Shape, shape, elements, Held, same, close, free}
 use Rattle.record_text.specs.Nest.{name-of, open-of, ups, held-of}
 use Rattle.record_text.specs.Pass.{full, Done, entry-of, closed}
 use Rattle.record_text.proofs.Shapes.{none-over}
@@ -54,8 +54,8 @@ module _ (t w : List ℕ) (n : ℕ) (os os′ : List OpenTag) (o : OpenTag) (e :
 
   pub close-done : (q : ℕ) (h : Held) (d : ℕ) (x : Entry) → d ≡ length os′ → x ≡ entry-of (o .place) h q (length w) d → closed q w h (ups t os) ≡ (o .node, x) ∷ []
   close-done q h d x f g =
-    ap (closed q w h) on-top
-    ∙ ap {B = List Done} (λ y. (o .node, y) ∷ []) (ap (entry-of (o .place) h q (length w)) (ups-length t os′ ∙ sym f) ∙ sym g)
+      ap (closed q w h) on-top
+      ∙ ap {B = List Done} (λ y. (o .node, y) ∷ []) (ap (entry-of (o .place) h q (length w)) (ups-length t os′ ∙ sym f) ∙ sym g)
 
 -- an empty tag
 pub alone-done : (t w : List ℕ) (os : List OpenTag) (n p q k d : ℕ) (x : Entry) → length w ≡ k → d ≡ length os → x ≡ branch p q k d →

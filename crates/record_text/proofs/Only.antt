@@ -1,30 +1,21 @@
 -- The reading gives the one answer that there is.
-use mathlib.Core.Bool.{Bool, true, false, cond, _||_, _&&_, false≢true}
+use mathlib.Core.Bool.{Bool, true, false}
 use mathlib.Core.List.{List, [], _∷_, _++_, append-assoc, append-nil}
-use mathlib.Core.Logic.{_⊎_, inl, inr}
+use mathlib.Core.Logic.{inl, inr}
 use mathlib.Core.Option.{Option, some, none}
 use mathlib.Core.Path.{_≡_, refl, sym, ap, subst, _∙_}
-use Prim.Native.Nat.{ℕ, suc, _+_, _-_, _≤_, _<_}
+use Prim.Native.Nat.{ℕ, _+_, _-_}
 use native.Mathlib.Omega.{arith}
-use lib.Dec.{eqb, leb}
-use lib.IntN.{ℤ}
-use lib.ListN.{length, getD, take, length-append}
-use Rattle.std.proofs.shelf.Tests.{leb-true, leb-false}
+use lib.ListN.{length}
 use Rattle.record_text.specs.declared.entry.Entry.{Entry}
-use Rattle.lexical.specs.declared.kinds.Kind.{Kind}
-use Rattle.lexical.specs.declared.kinds.Kind.the-variants.{Letter, Digit, Hyphen, Point, Less, Greater, Slash, Blank, Other}
-use Rattle.lexical.specs.Kinds.{kind}
-use Rattle.lexical.specs.Words.{word}
-use Rattle.lexical.specs.Numbers.{number}
-use Rattle.record_text.specs.Grammar.{Item, gap, tag, num, stray, lone, bytes, text, size, Content, Fits}
-use Rattle.record_text.specs.Grammar.{nothing as no-content}
-use Rattle.record_text.specs.Items.{ItemsOf, Cut, Ends, Role, space, less, greater, figure, plain, of-kind, role}
-use Rattle.record_text.specs.Reading.{slash-first, slash-last, begun-by, opened-by, closed-by, total, Over, Within, nothing, one-more, Outcome, accepted, misfit, limit, Accepted, Misfit, Unclosed, Limit, Answer}
-use Rattle.record_text.specs.Machine.{Open, Held, blanks, elements, value, Shape, shape, opened, Tag, opens, closes, whole, bad, named, tagOf, same, close, free, valued, move-num, move-tag, move, after, runs}
-use Rattle.record_text.proofs.Complete.{Free, size-++, runs-++, content-run}
-use Rattle.record_text.proofs.Sound.{Spine, top, Stands, Proper, AllProper, runs-sound, finished, after-some, nowhere, move-sound, free-some}
-use Rattle.record_text.proofs.Lex.{items, items-text, items-cut, cut-lex, differ}
-use Rattle.record_text.proofs.Read.{over, decide, at-end, check, start, read, fits-run, pop-run, stands, stuck, not-over, is-over, all-proper, front-proper, back-proper, some-same, size-push}
+use Rattle.record_text.specs.Grammar.{Item, bytes, size, Content, Fits}
+use Rattle.record_text.specs.Items.{ItemsOf}
+use Rattle.record_text.specs.Reading.{Within, nothing, one-more, Outcome, accepted, misfit, limit, Accepted, Misfit, Unclosed, Limit, Answer}
+use Rattle.record_text.specs.Machine.{Open, Held, elements, Shape, shape, move, runs}
+use Rattle.record_text.proofs.Complete.{content-run}
+use Rattle.record_text.proofs.Sound.{Spine, top, Proper, finished, move-sound}
+use Rattle.record_text.proofs.Lex.{items, cut-lex}
+use Rattle.record_text.proofs.Read.{over, decide, at-end, check, start, read, fits-run, pop-run, stands, not-over, is-over, all-proper, front-proper, back-proper, some-same, size-push}
 
 -- the reader passes what is within the limits
 through : {is : List Item} → Within is → (s : Shape) → runs 0 start is ≡ some s → (rest : List Item) → check 0 start (is ++ rest) ≡ check (size is) s rest

@@ -1,10 +1,10 @@
 -- One step of the reader, by the item that ended with it.
-use mathlib.Core.Bool.{Bool, true, false}
+use mathlib.Core.Bool.{true, false}
 use mathlib.Core.List.{List, [], _∷_, _++_}
 use mathlib.Core.Logic.{_⊎_, inl, inr}
-use mathlib.Core.Option.{Option, some, none}
+use mathlib.Core.Option.{some, none}
 use mathlib.Core.Path.{_≡_, refl, sym, ap, subst, _∙_}
-use Prim.Native.Nat.{ℕ, suc, _+_, _<_, _≤_}
+use Prim.Native.Nat.{ℕ, suc, _+_, _≤_}
 use native.Mathlib.Omega.{arith}
 use lib.ListN.{length, getD, drop, length-append, length-drop}
 use Rattle.record_text.specs.declared.cutter.Cutter.{Cutter}
@@ -45,10 +45,10 @@ module _ (b : ℕ) (t : List ℕ) (ih : (ph : Phase) → size (lex ph t) ≡ hel
   tag-size bs space = tag-more bs
   tag-size bs less = tag-more bs
   tag-size bs greater =
-    let h = ih idle in
-    let n = length-append bs (62 ∷ []) in
-    let m = length-append (bs ++ 62 ∷ []) (text (lex idle t)) in
-    omega arith
+      let h = ih idle in
+      let n = length-append bs (62 ∷ []) in
+      let m = length-append (bs ++ 62 ∷ []) (text (lex idle t)) in
+      omega arith
   tag-size bs figure = tag-more bs
   tag-size bs plain = tag-more bs
 
@@ -91,66 +91,69 @@ module _ (p : ℕ) (s : Shape) (i : Item) (is : List Item) where
 
   limit-at : (s′ : Shape) → over s i ≡ true → move p s i ≡ some s′ → check p s (i ∷ is) ≡ limit p
   limit-at s′ b e =
-    ap (λ o. decide p (over s i) o (λ x. check (p + length (bytes i)) x is)) e
-    ∙ ap (λ y. decide p y (some s′) (λ x. check (p + length (bytes i)) x is)) b
+      ap (λ o. decide p (over s i) o (λ x. check (p + length (bytes i)) x is)) e
+      ∙ ap (λ y. decide p y (some s′) (λ x. check (p + length (bytes i)) x is)) b
 
   pub check-on : (s′ : Shape) → over s i ≡ false → move p s i ≡ some s′ → check p s (i ∷ is) ≡ check (p + length (bytes i)) s′ is
   check-on s′ b e =
-    ap (λ o. decide p (over s i) o (λ x. check (p + length (bytes i)) x is)) e
-    ∙ ap (λ y. decide p y (some s′) (λ x. check (p + length (bytes i)) x is)) b
+      ap (λ o. decide p (over s i) o (λ x. check (p + length (bytes i)) x is)) e
+      ∙ ap (λ y. decide p y (some s′) (λ x. check (p + length (bytes i)) x is)) b
 
   done-on : (s′ : Shape) → move p s i ≡ some s′ → done p s (i ∷ is) ≡ done-by p s i ++ done (p + length (bytes i)) s′ is
   done-on s′ e = ap (λ o. done-after o (λ x. done-by p s i ++ done (p + length (bytes i)) x is)) e
 
   onward-item : (p′ : ℕ) (s′ : Shape) (r : Turn) → p + length (bytes i) ≡ p′ → Went p s i s′ r → Onward p s (i ∷ is) p′ s′ is r
-  onward-item p′ s′ turn.On q w =
-    ( check-on s′ (w .0) (w .1) ∙ ap (λ n. check n s′ is) q
-    , done-on s′ (w .1) ∙ (ap (λ d. d ++ done (p + length (bytes i)) s′ is) (w .2) ∙ ap (λ n. done n s′ is) q) )
-  onward-item p′ s′ (turn.Done n e) q w =
-    ( check-on s′ (w .0) (w .1) ∙ ap (λ n. check n s′ is) q
-    , done-on s′ (w .1) ∙ (ap (λ d. d ++ done (p + length (bytes i)) s′ is) (w .2) ∙ ap (λ m. (n, e) ∷ done m s′ is) q) )
+  onward-item p′ s′ turn.On q w = (
+    check-on s′ (w .0) (w .1) ∙ ap (λ n. check n s′ is) q,
+    done-on s′ (w .1) ∙ (ap (λ d. d ++ done (p + length (bytes i)) s′ is) (w .2) ∙ ap (λ n. done n s′ is) q),
+  )
+  onward-item p′ s′ (turn.Done n e) q w = (
+    check-on s′ (w .0) (w .1) ∙ ap (λ n. check n s′ is) q,
+    done-on s′ (w .1) ∙ (ap (λ d. d ++ done (p + length (bytes i)) s′ is) (w .2) ∙ ap (λ m. (n, e) ∷ done m s′ is) q),
+  )
   onward-item p′ s′ (turn.Misfit x) q w = misfit-at (w .1) ∙ ap misfit (sym (w .0))
   onward-item p′ s′ (turn.Limit x) q w = limit-at (w .2 .0) (w .1) (w .2 .1) ∙ ap limit (sym (w .0))
 
   -- the same, where the item is the first of those left, and places are known by what is left
   onward-first : (js : List Item) (n p′ : ℕ) (s′ : Shape) (r : Turn) → js ≡ i ∷ is → p + size js ≡ n → p′ + size is ≡ n → Went p s i s′ r → Onward p s js p′ s′ is r
   onward-first js n p′ s′ r e a b w =
-    let m : size js ≡ length (bytes i) + size is = ap size e ∙ length-append (bytes i) (text is) in
-    subst (λ l. Onward p s l p′ s′ is r) (sym e) (onward-item p′ s′ r (omega arith) w)
+      let m : size js ≡ length (bytes i) + size is = ap size e ∙ length-append (bytes i) (text is) in
+      subst (λ l. Onward p s l p′ s′ is r) (sym e) (onward-item p′ s′ r (omega arith) w)
 
 -- a step that ends an item of each kind
 module _ (t : List ℕ) (c c′ : Cutter) (g : Good t c) (g′ : Good t c′) (s s′ : Shape) where
   ends-nothing : Cuts t (c .at) (from c) ended.Nothing (left t c) (left t c′) → Onward (from c) s (left t c) (from c′) s (left t c′) turn.On
   ends-nothing e =
-    let a = left-size t c g in
-    let b = left-size t c′ g′ in
-    let m : size (left t c) ≡ size (left t c′) = ap size e in
-    let y : from c ≡ from c′ = omega arith in
-    (ap (λ l. check (from c) s l) e ∙ ap (λ n. check n s (left t c′)) y, ap (λ l. done (from c) s l) e ∙ ap (λ n. done n s (left t c′)) y)
+      let a = left-size t c g in
+      let b = left-size t c′ g′ in
+      let m : size (left t c) ≡ size (left t c′) = ap size e in
+      let y : from c ≡ from c′ = omega arith in
+      (ap (λ l. check (from c) s l) e ∙ ap (λ n. check n s (left t c′)) y, ap (λ l. done (from c) s l) e ∙ ap (λ n. done n s (left t c′)) y)
 
   ends-blank : Cuts t (c .at) (from c) ended.Blank (left t c) (left t c′) → Onward (from c) s (left t c) (from c′) s (left t c′) turn.On
   ends-blank e = onward-first (from c) s (gap (getD t (c .at) 0)) (left t c′) (left t c) (length t) (from c′) s turn.On e (left-size t c g) (left-size t c′ g′) (refl, refl, refl)
 
   pub ends-quietly : (r : Ended) → (r ≡ ended.Nothing) ⊎ (r ≡ ended.Blank) → Cuts t (c .at) (from c) r (left t c) (left t c′) →
-    Onward (from c) s (left t c) (from c′) s (left t c′) turn.On
+      Onward (from c) s (left t c) (from c′) s (left t c′) turn.On
   ends-quietly r o e =
-    elim o
-    [ inl q ↦ ends-nothing (subst (λ x. Cuts t (c .at) (from c) x (left t c) (left t c′)) q e)
-    | inr q ↦ ends-blank (subst (λ x. Cuts t (c .at) (from c) x (left t c) (left t c′)) q e) ]
+      elim o [
+        | inl q ↦ ends-nothing (subst (λ x. Cuts t (c .at) (from c) x (left t c) (left t c′)) q e)
+        | inr q ↦ ends-blank (subst (λ x. Cuts t (c .at) (from c) x (left t c) (left t c′)) q e)
+      ]
 
   pub ends-stray : Cuts t (c .at) (from c) ended.Stray (left t c) (left t c′) → Onward (from c) s (left t c) (from c′) s′ (left t c′) (turn.Misfit (c .at))
   ends-stray e =
-    onward-first (from c) s (stray (getD t (c .at) 0)) (left t c′) (left t c) (length t) (from c′) s′ (turn.Misfit (c .at)) (e .1) (left-size t c g) (left-size t c′ g′) (sym (e .0), refl)
+      onward-first (from c) s (stray (getD t (c .at) 0)) (left t c′) (left t c) (length t) (from c′) s′ (turn.Misfit (c .at)) (e .1) (left-size t c g) (left-size t c′ g′) (sym (e .0), refl)
 
   module _ (start : ℕ) (r : Turn) where
     pub ends-number : Cuts t (c .at) (from c) (ended.Number start) (left t c) (left t c′) → Went start s (num (part t start (c .at))) s′ r →
-      Onward (from c) s (left t c) (from c′) s′ (left t c′) r
+        Onward (from c) s (left t c) (from c′) s′ (left t c′) r
     ends-number e w =
-      onward-first (from c) s (num (part t start (c .at))) (left t c′) (left t c) (length t) (from c′) s′ r (e .2) (left-size t c g) (left-size t c′ g′)
+        onward-first (from c) s (num (part t start (c .at))) (left t c′) (left t c) (length t) (from c′) s′ r (e .2) (left-size t c g) (left-size t c′ g′)
         (subst (λ n. Went n s (num (part t start (c .at))) s′ r) (sym (e .0)) w)
 
     pub ends-tag : Cuts t (c .at) (from c) (ended.Tag start) (left t c) (left t c′) → Went start s (tag (part t (start + 1) (c .at))) s′ r →
-      Onward (from c) s (left t c) (from c′) s′ (left t c′) r
+        Onward (from c) s (left t c) (from c′) s′ (left t c′) r
     ends-tag e w =
-      onward-first (from c) s (tag (part t (start + 1) (c .at))) (left t c′) (left t c) (length t) (from c′) s′ r (e .2) (left-size t c g) (left-size t c′ g′)
+        onward-first (from c) s (tag (part t (start + 1) (c .at))) (left t c′) (left t c) (length t) (from c′) s′ r (e .2) (left-size t c g) (left-size t c′ g′)
         (subst (λ n. Went n s (tag (part t (start + 1) (c .at))) s′ r) (sym (e .0)) w)

@@ -4,7 +4,6 @@ use mathlib.Core.List.{List, [], _++_}
 use mathlib.Core.Path.{_≡_, refl, sym, ap, subst, _∙_}
 use Prim.Native.Nat.{ℕ, _≤_, _<_}
 use native.Mathlib.Omega.{arith}
-use lib.Dec.{leb}
 use lib.ListN.{length, drop}
 use Rattle.std.proofs.shelf.Tests.{le-leb, lt-leb}
 use Rattle.std.specs.declared.result.Result.{Result}
@@ -13,11 +12,10 @@ use Rattle.refusals.specs.declared.Refusal.{Refusal}
 use Rattle.refusals.specs.declared.Refusal.the-variants as refusal
 use Rattle.refusals.specs.Refusals.{number, places}
 use Rattle.record_text.specs.declared.entry.Entry.{Entry}
-use Rattle.record_text.specs.Grammar.{Item, Content}
 use Rattle.record_text.specs.Machine.{elements}
 use Rattle.record_text.specs.Reading.{Outcome, accepted, misfit, limit, Answer, Accepted}
 use Rattle.record_text.specs.Pass.{start, read, done, written, entries}
-use Rattle.record_text.specs.Opening.{Reads, Refuses, misfits, limits, short, Opened, answered}
+use Rattle.record_text.specs.Opening.{Refuses, misfits, limits, short, Opened, answered}
 use Rattle.record_text.specs.Passing.{outcome}
 use Rattle.record_text.proofs.Read.{read-answers}
 use Rattle.record_text.proofs.Only.{only, items-are}
@@ -70,11 +68,11 @@ module _ (t : List ℕ) (l : List Entry) where
 
     pub filled : n ≤ length l → (l′ : List Entry) → l′ ≡ entries t l → Opened t l (Ok n) l′
     filled k l′ e =
-      let a = accepts in
-      let c = a .3 in
-      let b : length (a .1) ≤ length l = omega (arith, a .5) in
-      let q : entries t l ≡ a .1 ++ drop (length (a .1)) l = ap (λ is. written (done 0 start is) l) (items-are t (a .0) (a .2)) ∙ content-fill c 0 [] elements tt refl [] l refl b in
-      (a .1, (a .0, a .2, c, a .4), a .5, k, e ∙ (q ∙ ap (λ m. a .1 ++ drop m l) (a .5)))
+        let a = accepts in
+        let c = a .3 in
+        let b : length (a .1) ≤ length l = omega (arith, a .5) in
+        let q : entries t l ≡ a .1 ++ drop (length (a .1)) l = ap (λ is. written (done 0 start is) l) (items-are t (a .0) (a .2)) ∙ content-fill c 0 [] elements tt refl [] l refl b in
+        (a .1, (a .0, a .2, c, a .4), a .5, k, e ∙ (q ∙ ap (λ m. a .1 ++ drop m l) (a .5)))
 
     pub only-filled : n ≤ length l → (o : Outcome) → Answer t o → _≡_ {A = Result ℕ Refusal} (Ok n) (answered (length l) o)
     only-filled k o a = sym (ap (λ b. cond b (Ok n) (Err refusal.Short)) (le-leb n (length l) k)) ∙ ap (answered (length l)) (only-accepts o a)

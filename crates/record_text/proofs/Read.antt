@@ -4,13 +4,12 @@ use mathlib.Core.List.{List, [], _∷_, _++_, append-assoc, append-nil}
 use mathlib.Core.Logic.{_⊎_, inl, inr}
 use mathlib.Core.Option.{Option, some, none}
 use mathlib.Core.Path.{_≡_, refl, sym, ap, subst, _∙_}
-use Prim.Native.Nat.{ℕ, suc, _+_, _-_, _≤_, _<_}
+use Prim.Native.Nat.{ℕ, suc, _+_, _-_}
 use native.Mathlib.Omega.{arith}
-use lib.Dec.{eqb, leb}
+use lib.Dec.{leb}
 use lib.IntN.{ℤ}
-use lib.ListN.{length, getD, take, length-append}
+use lib.ListN.{length, take, length-append}
 use Rattle.std.proofs.shelf.Tests.{leb-true, leb-false}
-use Rattle.record_text.specs.declared.entry.Entry.{Entry}
 use Rattle.lexical.specs.declared.kinds.Kind.{Kind}
 use Rattle.lexical.specs.declared.kinds.Kind.the-variants.{Letter, Digit, Hyphen, Point, Less, Greater, Slash, Blank, Other}
 use Rattle.std.specs.declared.option.Option.{Option as Maybe}
@@ -18,16 +17,16 @@ use Rattle.std.specs.declared.option.Option.the-variants.{Some, None}
 use Rattle.lexical.specs.Kinds.{kind}
 use Rattle.lexical.specs.Words.{word}
 use Rattle.lexical.specs.Numbers.{number}
-use Rattle.record_text.specs.Grammar.{Item, gap, tag, num, stray, lone, bytes, text, size, Content, Fits}
+use Rattle.record_text.specs.Grammar.{Item, gap, tag, num, stray, lone, bytes, text, size, Fits}
 use Rattle.record_text.specs.Grammar.{nothing as no-content}
 use Rattle.record_text.specs.Limits.{most-nodes, most-levels}
-use Rattle.record_text.specs.Items.{ItemsOf, Cut, Ends, Role, space, less, greater, figure, plain, of-kind, role}
-use Rattle.record_text.specs.Reading.{slash-first, slash-last, begun-by, opened-by, closed-by, total, Over, Within, nothing, one-more, Outcome, accepted, misfit, limit, Accepted, Misfit, Unclosed, Limit, Answer}
-use Rattle.record_text.specs.Machine.{Open, Held, blanks, elements, value, Shape, shape, opened, Tag, opens, closes, whole, bad, named, tagOf, same, close, free, valued, move-num, move-tag, move, after, runs}
-use Rattle.record_text.proofs.Complete.{Free, size-++, runs-++, content-run}
+use Rattle.record_text.specs.Items.{ItemsOf, Cut, Ends, space, less, greater, figure, plain, of-kind, role}
+use Rattle.record_text.specs.Reading.{slash-first, slash-last, begun-by, opened-by, closed-by, total, Over, Within, nothing, one-more, Answer}
+use Rattle.record_text.specs.Machine.{Open, Held, blanks, elements, value, Shape, shape, Tag, opens, closes, whole, bad, named, tagOf, same, close, move-num, move-tag, move, after, runs}
+use Rattle.record_text.proofs.Complete.{size-++, runs-++, content-run}
 use Rattle.record_text.proofs.Sound.{Spine, top, Stands, Proper, AllProper, runs-sound, finished, after-some, nowhere, move-sound, free-some}
 pub use Rattle.record_text.specs.Pass.{starts, starts-item, full, over, decide, at-end, check, start, read}
-use Rattle.record_text.proofs.Lex.{items, items-text, items-cut, cut-lex, differ}
+use Rattle.record_text.proofs.Lex.{items, items-text, items-cut, differ}
 
 -- what an item does to the counts
 abbrev Turn : List ℕ → Tag → Type 0
@@ -143,18 +142,19 @@ over-no false x y e = inl refl
 module _ (is : List Item) (i : Item) (s s′ : Shape) (r : runs 0 start is ≡ some s) (m : move (size is) s i ≡ some s′) where
   pub is-over : over s i ≡ true → Over is i
   is-over e =
-    let o = over-yes (starts-item i) (leb most-nodes (s .nodes)) (leb most-levels (length (s .up))) e in
-    let c = counts (size is) s s′ i m in
-    let n = run-counts 0 start s is r in
-    (c .starting (o .0), elim (o .1) [ inl x ↦ inl (omega (arith, leb-true most-nodes (s .nodes) x)) | inr y ↦ inr (omega (arith, leb-true most-levels (length (s .up)) y)) ])
+      let o = over-yes (starts-item i) (leb most-nodes (s .nodes)) (leb most-levels (length (s .up))) e in
+      let c = counts (size is) s s′ i m in
+      let n = run-counts 0 start s is r in
+      (c .starting (o .0), elim (o .1) [ inl x ↦ inl (omega (arith, leb-true most-nodes (s .nodes) x)) | inr y ↦ inr (omega (arith, leb-true most-levels (length (s .up)) y)) ])
 
   pub not-over : over s i ≡ false → Over is i → ⊥
   not-over e h =
-    let c = counts (size is) s s′ i m in
-    let n = run-counts 0 start s is r in
-    elim (over-no (starts-item i) (leb most-nodes (s .nodes)) (leb most-levels (length (s .up))) e)
-    [ inl x ↦ omega (arith, c .passing x, h .0)
-    | inr x ↦ elim (h .1) [ inl a ↦ omega (arith, leb-false most-nodes (s .nodes) (x .0)) | inr b ↦ omega (arith, leb-false most-levels (length (s .up)) (x .1)) ] ]
+      let c = counts (size is) s s′ i m in
+      let n = run-counts 0 start s is r in
+      elim (over-no (starts-item i) (leb most-nodes (s .nodes)) (leb most-levels (length (s .up))) e) [
+        | inl x ↦ omega (arith, c .passing x, h .0)
+        | inr x ↦ elim (h .1) [ inl a ↦ omega (arith, leb-false most-nodes (s .nodes) (x .0)) | inr b ↦ omega (arith, leb-false most-levels (length (s .up)) (x .1)) ]
+      ]
 
 -- runs of parts
 pub split-run : (p : ℕ) (s s″ : Shape) (is js : List Item) → runs p s (is ++ js) ≡ some s″ → (s′ : Shape) × (runs p s is ≡ some s′) × (runs (p + size is) s′ js ≡ some s″)
@@ -237,27 +237,34 @@ module _ (t : List ℕ) where
   ended-answer : (is : List Item) (n : ℕ) (up : List Open) (h : Held) → runs 0 start is ≡ some (shape n up h) → Within is → ItemsOf t is → Spine is n up h → Answer t (at-end (size is) n up)
   ended-answer is n [] h r w io (top {es = es} c) = (is, es, io, c, w, refl)
   ended-answer is n (o ∷ up) h r w io sp =
-    inr (is, io, finished (o ∷ up) sp, w,
-      (λ es c. let q = some-same _ _ (sym (content-run c 0 [] elements tt .2) ∙ r) in let z : _≡_ {A = ℕ} 0 (suc (length up)) = ap (λ x. length (x .up)) q in omega arith), refl)
+      inr (
+        is,
+        io,
+        finished (o ∷ up) sp,
+        w,
+        (λ es c. let q = some-same _ _ (sym (content-run c 0 [] elements tt .2) ∙ r) in let z : _≡_ {A = ℕ} 0 (suc (length up)) = ap (λ x. length (x .up)) q in omega arith),
+        refl,
+      )
 
   pub answers : (is rest : List Item) (s : Shape) → runs 0 start is ≡ some s → Within is → ItemsOf t (is ++ rest) → AllProper (is ++ rest) → Answer t (check (size is) s rest)
   answers is [] s r w io pr =
-    let io′ : ItemsOf t is = subst (ItemsOf t) (append-nil is) io in
-    ended-answer is (s .nodes) (s .up) (s .held) r w io′ (stands is s (front-proper is [] pr) r)
+      let io′ : ItemsOf t is = subst (ItemsOf t) (append-nil is) io in
+      ended-answer is (s .nodes) (s .up) (s .held) r w io′ (stands is s (front-proper is [] pr) r)
   answers is (i ∷ rest) s r w io pr =
-    go (move (size is) s i) refl (over s i) refl
+      go (move (size is) s i) refl (over s i) refl
       (λ s′ m v. subst (λ n. Answer t (check n s′ rest)) (sym (size-push is i))
-        (answers (is ++ i ∷ []) rest s′ (push-run is i s s′ r m) (one-more w i (not-over is i s s′ r m v))
-          (subst (ItemsOf t) (sym (append-assoc is (i ∷ []) rest)) io) (subst AllProper (sym (append-assoc is (i ∷ []) rest)) pr)))
+      (answers (is ++ i ∷ []) rest s′ (push-run is i s s′ r m) (one-more w i (not-over is i s s′ r m v))
+      (subst (ItemsOf t) (sym (append-assoc is (i ∷ []) rest)) io) (subst AllProper (sym (append-assoc is (i ∷ []) rest)) pr)))
     where
       sp : Stands is s
       sp = stands is s (front-proper is (i ∷ rest) pr) r
+
       go : (o : Option Shape) → move (size is) s i ≡ o → (b : Bool) → over s i ≡ b →
-        ((s′ : Shape) → move (size is) s i ≡ some s′ → over s i ≡ false → Answer t (check (size is + length (bytes i)) s′ rest)) →
-        Answer t (decide (size is) b o (λ s′. check (size is + length (bytes i)) s′ rest))
+          ((s′ : Shape) → move (size is) s i ≡ some s′ → over s i ≡ false → Answer t (check (size is + length (bytes i)) s′ rest)) →
+          Answer t (decide (size is) b o (λ s′. check (size is + length (bytes i)) s′ rest))
       go none m b v f = inl (is, i, rest, io, finished (s .up) sp, w, stuck is i s r m, refl)
       go (some s′) m true v f =
-        (is, i, rest, io, w, finished (s′ .up) (move-sound i s s′ (back-proper is i rest pr) sp m), is-over is i s s′ r m v, refl)
+          (is, i, rest, io, w, finished (s′ .up) (move-sound i s s′ (back-proper is i rest pr) sp m), is-over is i s s′ r m v, refl)
       go (some s′) m false v f = f s′ m v
 
 pub read-answers : (t : List ℕ) → Answer t (read t)

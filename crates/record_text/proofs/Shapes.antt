@@ -1,25 +1,22 @@
 -- The entries of an accepted text have the shape of a record.
-use mathlib.Core.Bool.{Bool, true, false, cond, _||_, _&&_, false≢true}
+use mathlib.Core.Bool.{Bool, true, false, _||_, _&&_, false≢true}
 use mathlib.Core.List.{List, [], _∷_, _++_, append-assoc, append-nil}
-use mathlib.Core.Option.{Option, some, none}
+use mathlib.Core.Option.{some}
 use mathlib.Core.Path.{_≡_, refl, sym, ap, subst, _∙_}
 use Prim.Native.Nat.{ℕ, suc, _+_, _≤_, _<_}
 use native.Mathlib.Omega.{arith}
 use lib.Dec.{leb}
-use lib.IntN.{ℤ}
 use lib.ListN.{length, length-append}
 use Rattle.std.proofs.shelf.Tests.{leb-false}
 use Rattle.record_text.specs.declared.entry.Entry.{Entry}
-use Rattle.lexical.specs.Words.{word}
-use Rattle.lexical.specs.Numbers.{Number}
 use Rattle.lexical.proofs.NumberFacts.{number-rule}
 use Rattle.record_text.specs.Limits.{most-nodes, most-levels}
 use Rattle.record_text.specs.Grammar.{Item, gap, tag, num, bytes, text, size, opening, closing, alone, Blanks, no-blank, one-more, Content, nothing, blank, element, Element, hollow, around, holding}
-use Rattle.record_text.specs.Reading.{Outcome, accepted, misfit, limit, Accepted}
-use Rattle.record_text.specs.Shape.{next-depth, From, Shallow, RecordShape}
+use Rattle.record_text.specs.Reading.{Outcome, accepted}
+use Rattle.record_text.specs.Shape.{From, Shallow}
 use Rattle.record_text.specs.Laws.{KeepsShape}
-use Rattle.record_text.specs.Machine.{Open, Held, blanks, elements, value, Shape, shape, opened, Tag, opens, closes, whole, tagOf, move, move-num, runs}
-use Rattle.record_text.proofs.Complete.{Free, content-run, element-run, opening-tag, closing-tag, alone-tag, open-move, close-move, alone-move, blanks-run, size-++}
+use Rattle.record_text.specs.Machine.{Open, Held, blanks, elements, value, Shape, shape, opened, Tag, opens, whole, tagOf, move, move-num}
+use Rattle.record_text.proofs.Complete.{Free, opening-tag, alone-tag, open-move, close-move, alone-move, size-++}
 use Rattle.record_text.proofs.Read.{starts, over, decide, check, start}
 use Rattle.record_text.proofs.Only.{only, items-are}
 use Rattle.record_text.proofs.Fill.{size-holding}
@@ -29,7 +26,7 @@ mutual
   content-from nothing m h fs f = f m h
   content-from (blank c b k) m h fs f = content-from c m h fs f
   content-from (element {es = es} {fs = gs} c e) m h fs f =
-    subst (From m) (sym (append-assoc es gs fs)) (content-from c m h (gs ++ fs) (λ k l. element-from e k l fs f))
+      subst (From m) (sym (append-assoc es gs fs)) (content-from c m h (gs ++ fs) (λ k l. element-from e k l fs f))
 
   element-from : {p d : ℕ} {is : List Item} {es : List Entry} → Element p d is es → (m : ℕ) → d ≤ m → (fs : List Entry) → ((k : ℕ) → d ≤ k → From k fs) → From m (es ++ fs)
   element-from (hollow {d = d} w k) m h fs f = (h, f (suc d) (omega arith))
@@ -77,54 +74,79 @@ record Kept (p n : ℕ) (up : List Open) (is : List Item) (es : List Entry) (js 
 
 mutual
   content-limits : {p d : ℕ} {is : List Item} {es : List Entry} → Content p d is es → (n : ℕ) (up : List Open) (h : Held) → Free h → length up ≡ d → n ≤ most-nodes → (js : List Item) (k : ℕ) →
-    check p (shape n up h) (is ++ js) ≡ accepted k → Kept p n up is es js k
+      check p (shape n up h) (is ++ js) ≡ accepted k → Kept p n up is es js k
   content-limits (nothing {p}) n up h f u b js k e =
-    record { shallow = tt; few = omega arith; held = h; free = f; goes = at-check p (p + 0) n (n + 0) up h js k (omega arith) (omega arith) e }
+      record { shallow = tt; few = omega arith; held = h; free = f; goes = at-check p (p + 0) n (n + 0) up h js k (omega arith) (omega arith) e }
   content-limits (blank {p} {d} {is} {es} c x y) n up h f u b js k e =
-    let r = content-limits c n up h f u b (gap x ∷ js) k (subst (λ l. check p (shape n up h) l ≡ accepted k) (append-assoc is (gap x ∷ []) js) e) in
-    let s : Shape = shape (n + length es) up (r .held) in
-    record { shallow = r .shallow; few = r .few; held = r .held; free = r .free;
-      goes = at-check (p + size is + 1) (p + size (is ++ gap x ∷ [])) _ _ up (r .held) js k (omega (arith, size-++ is (gap x ∷ []))) refl (check-∷ (p + size is) k s s (gap x) js refl (r .goes) .1) }
+      let r = content-limits c n up h f u b (gap x ∷ js) k (subst (λ l. check p (shape n up h) l ≡ accepted k) (append-assoc is (gap x ∷ []) js) e) in
+      let s : Shape = shape (n + length es) up (r .held) in
+      record {
+        shallow = r .shallow;
+        few = r .few;
+        held = r .held;
+        free = r .free;
+        goes = at-check (p + size is + 1) (p + size (is ++ gap x ∷ [])) _ _ up (r .held) js k (omega (arith, size-++ is (gap x ∷ []))) refl (check-∷ (p + size is) k s s (gap x) js refl (r .goes) .1);
+      }
   content-limits (element {p} {d} {is} {es} {js = gs} {fs} c x) n up h f u b js k e =
-    let r = content-limits c n up h f u b (gs ++ js) k (subst (λ l. check p (shape n up h) l ≡ accepted k) (append-assoc is gs js) e) in
-    let q = element-limits x (n + length es) up (r .held) (r .free) u (r .few) js k (r .goes) in
-    let l = length-append es fs in
-    record { shallow = shallow-++ es fs (r .shallow) (q .shallow); few = omega (arith, q .few); held = q .held; free = q .free;
-      goes = at-check (p + size is + size gs) (p + size (is ++ gs)) (n + length es + length fs) (n + length (es ++ fs)) up (q .held) js k (omega (arith, size-++ is gs)) (omega arith) (q .goes) }
+      let r = content-limits c n up h f u b (gs ++ js) k (subst (λ l. check p (shape n up h) l ≡ accepted k) (append-assoc is gs js) e) in
+      let q = element-limits x (n + length es) up (r .held) (r .free) u (r .few) js k (r .goes) in
+      let l = length-append es fs in
+      record {
+        shallow = shallow-++ es fs (r .shallow) (q .shallow);
+        few = omega (arith, q .few);
+        held = q .held;
+        free = q .free;
+        goes = at-check (p + size is + size gs) (p + size (is ++ gs)) (n + length es + length fs) (n + length (es ++ fs)) up (q .held) js k (omega (arith, size-++ is gs)) (omega arith) (q .goes);
+      }
 
   element-limits : {p d : ℕ} {is : List Item} {es : List Entry} → Element p d is es → (n : ℕ) (up : List Open) (h : Held) → Free h → length up ≡ d → n ≤ most-nodes → (js : List Item) (k : ℕ) →
-    check p (shape n up h) (is ++ js) ≡ accepted k → Kept p n up is es js k
+      check p (shape n up h) (is ++ js) ≡ accepted k → Kept p n up is es js k
   element-limits (hollow {p} w x) n up h f u b js k e =
-    let r = check-∷ p k (shape n up h) _ (alone w) js (alone-move p n up h w x f) e in
-    let l = limits n up h (w ++ 47 ∷ []) (whole w) (alone-tag w x) refl (r .0) in
-    record { shallow = (omega arith, tt); few = omega arith; held = elements; free = tt;
-      goes = at-check (p + length (bytes (alone w))) _ (n + 1) (n + 1) up elements js k (omega (arith, length-append (bytes (alone w)) [])) refl (r .1) }
+      let r = check-∷ p k (shape n up h) _ (alone w) js (alone-move p n up h w x f) e in
+      let l = limits n up h (w ++ 47 ∷ []) (whole w) (alone-tag w x) refl (r .0) in
+      record {
+        shallow = (omega arith, tt);
+        few = omega arith;
+        held = elements;
+        free = tt;
+        goes = at-check (p + length (bytes (alone w))) _ (n + 1) (n + 1) up elements js k (omega (arith, length-append (bytes (alone w)) [])) refl (r .1);
+      }
   element-limits (around {p} {d} {is} {es} w x c) n up h f u b js k e =
-    let o : Open = opened w p n in
-    let q : ℕ = p + length (bytes (opening w)) in
-    let r = check-∷ p k (shape n up h) _ (opening w) ((is ++ closing w ∷ []) ++ js) (open-move p n up h w x f) e in
-    let l = limits n up h w (opens w) (opening-tag w x) refl (r .0) in
-    let i = content-limits c (n + 1) (o ∷ up) blanks tt (ap suc u) (omega arith) (closing w ∷ js) k (subst (λ y. check q (shape (n + 1) (o ∷ up) blanks) y ≡ accepted k) (append-assoc is (closing w ∷ []) js) (r .1)) in
-    let m : ℕ = n + 1 + length es in
-    let z = check-∷ (q + size is) k (shape m (o ∷ up) (i .held)) _ (closing w) js (close-move (q + size is) m up (i .held) w x p n) (i .goes) in
-    record { shallow = (omega arith, i .shallow); few = omega (arith, i .few); held = elements; free = tt;
-      goes = at-check (q + size is + length (bytes (closing w))) _ m (n + suc (length es)) up elements js k
-        (omega (arith, length-append (bytes (opening w)) (text (is ++ closing w ∷ [])), size-++ is (closing w ∷ []), length-append (bytes (closing w)) [])) (omega arith) (z .1) }
+      let o : Open = opened w p n in
+      let q : ℕ = p + length (bytes (opening w)) in
+      let r = check-∷ p k (shape n up h) _ (opening w) ((is ++ closing w ∷ []) ++ js) (open-move p n up h w x f) e in
+      let l = limits n up h w (opens w) (opening-tag w x) refl (r .0) in
+      let i = content-limits c (n + 1) (o ∷ up) blanks tt (ap suc u) (omega arith) (closing w ∷ js) k (subst (λ y. check q (shape (n + 1) (o ∷ up) blanks) y ≡ accepted k) (append-assoc is (closing w ∷ []) js) (r .1)) in
+      let m : ℕ = n + 1 + length es in
+      let z = check-∷ (q + size is) k (shape m (o ∷ up) (i .held)) _ (closing w) js (close-move (q + size is) m up (i .held) w x p n) (i .goes) in
+      record {
+        shallow = (omega arith, i .shallow);
+        few = omega (arith, i .few);
+        held = elements;
+        free = tt;
+        goes = at-check (q + size is + length (bytes (closing w))) _ m (n + suc (length es)) up elements js k
+            (omega (arith, length-append (bytes (opening w)) (text (is ++ closing w ∷ [])), size-++ is (closing w ∷ []), length-append (bytes (closing w)) [])) (omega arith) (z .1);
+      }
   element-limits (holding {p} {d} {bs} {cs} w x B ds v y C) n up h f u b js k e =
-    let o : Open = opened w p n in
-    let q : ℕ = p + length (bytes (opening w)) in
-    let s : Shape = shape (n + 1) (o ∷ up) blanks in
-    let s′ : Shape = shape (n + 1) (o ∷ up) (value v) in
-    let r = check-∷ p k (shape n up h) s (opening w) ((bs ++ num ds ∷ (cs ++ closing w ∷ [])) ++ js) (open-move p n up h w x f) e in
-    let l = limits n up h w (opens w) (opening-tag w x) refl (r .0) in
-    let j : (bs ++ num ds ∷ (cs ++ closing w ∷ [])) ++ js ≡ bs ++ num ds ∷ (cs ++ closing w ∷ js) = simp append-assoc in
-    let a = blanks-check B q k s (num ds ∷ (cs ++ closing w ∷ js)) (subst (λ z. check q s z ≡ accepted k) j (r .1)) in
-    let g = check-∷ (q + size bs) k s s′ (num ds) (cs ++ closing w ∷ js) (ap (move-num s blanks) (number-rule ds v .1 y)) a in
-    let c = blanks-check C (q + size bs + length ds) k s′ (closing w ∷ js) (g .1) in
-    let q₃ : ℕ = q + size bs + length ds + size cs in
-    let z = check-∷ q₃ k s′ _ (closing w) js (close-move q₃ (n + 1) up (value v) w x p n) c in
-    record { shallow = (omega arith, tt); few = omega arith; held = elements; free = tt;
-      goes = at-check (q₃ + length (bytes (closing w))) _ (n + 1) (n + 1) up elements js k (omega (arith, size-holding w bs ds cs)) refl (z .1) }
+      let o : Open = opened w p n in
+      let q : ℕ = p + length (bytes (opening w)) in
+      let s : Shape = shape (n + 1) (o ∷ up) blanks in
+      let s′ : Shape = shape (n + 1) (o ∷ up) (value v) in
+      let r = check-∷ p k (shape n up h) s (opening w) ((bs ++ num ds ∷ (cs ++ closing w ∷ [])) ++ js) (open-move p n up h w x f) e in
+      let l = limits n up h w (opens w) (opening-tag w x) refl (r .0) in
+      let j : (bs ++ num ds ∷ (cs ++ closing w ∷ [])) ++ js ≡ bs ++ num ds ∷ (cs ++ closing w ∷ js) = simp append-assoc in
+      let a = blanks-check B q k s (num ds ∷ (cs ++ closing w ∷ js)) (subst (λ z. check q s z ≡ accepted k) j (r .1)) in
+      let g = check-∷ (q + size bs) k s s′ (num ds) (cs ++ closing w ∷ js) (ap (move-num s blanks) (number-rule ds v .1 y)) a in
+      let c = blanks-check C (q + size bs + length ds) k s′ (closing w ∷ js) (g .1) in
+      let q₃ : ℕ = q + size bs + length ds + size cs in
+      let z = check-∷ q₃ k s′ _ (closing w) js (close-move q₃ (n + 1) up (value v) w x p n) c in
+      record {
+        shallow = (omega arith, tt);
+        few = omega arith;
+        held = elements;
+        free = tt;
+        goes = at-check (q₃ + length (bytes (closing w))) _ (n + 1) (n + 1) up elements js k (omega (arith, size-holding w bs ds cs)) refl (z .1);
+      }
 
 pub keeps-shape : KeepsShape
 keeps-shape t es (is, io, c, w) =

@@ -1,13 +1,13 @@
 -- What the reader of items passes, the grammar derives.
-use mathlib.Core.Bool.{Bool, true, false, cond, _&&_, false≢true}
+use mathlib.Core.Bool.{Bool, true, false, cond, false≢true}
 use mathlib.Core.List.{List, [], _∷_, _++_, append-assoc, append-nil}
 use mathlib.Core.Option.{Option, some, none}
 use mathlib.Core.Path.{_≡_, refl, sym, ap, subst, _∙_}
-use Prim.Native.Nat.{ℕ, zero, suc, _+_, _-_, _<_, _≤_}
+use Prim.Native.Nat.{ℕ, suc, _+_, _-_, _<_, _≤_}
 use native.Mathlib.Omega.{arith}
 use lib.Dec.{eqb}
 use lib.IntN.{ℤ}
-use lib.ListN.{length, getD, take, drop, length-append}
+use lib.ListN.{length, getD, take, length-append}
 use Rattle.std.proofs.shelf.Tests.{eqb-true, and-parts}
 use Rattle.std.proofs.shelf.Lists.{take-more, take-all}
 use Rattle.record_text.specs.declared.entry.Entry.{Entry}
@@ -18,21 +18,21 @@ use Rattle.lexical.specs.Kinds.{kind}
 use Rattle.lexical.specs.Words.{word}
 use Rattle.lexical.specs.Numbers.{Number, number}
 use Rattle.lexical.proofs.NumberFacts.{number-rule}
-use Rattle.record_text.specs.Grammar.{Item, gap, tag, num, stray, lone, bytes, text, size, opening, closing, alone, Blanks, no-blank, one-more, Content, nothing, blank, element, Element, hollow, around, holding, Fits}
-use Rattle.record_text.specs.Machine.{Open, Held, blanks, elements, value, Shape, shape, opened, Tag, opens, closes, whole, bad, named, tagOf, same, close, free, valued, move-num, move-tag, move, after, runs}
+use Rattle.record_text.specs.Grammar.{Item, gap, tag, num, stray, lone, bytes, text, size, opening, closing, Blanks, no-blank, one-more, Content, nothing, blank, element, Element, hollow, around, holding, Fits}
+use Rattle.record_text.specs.Machine.{Open, Held, blanks, elements, value, Shape, shape, opened, Tag, opens, closes, whole, bad, named, tagOf, same, close, free, move-num, move-tag, move, after, runs}
 use Rattle.record_text.proofs.Complete.{Free, size-++}
 
 -- An unfinished text: the items so far, by the open elements.
 pub data Spine : List Item → ℕ → List Open → Held → Type 0 where
   top : {is : List Item} {es : List Entry} → Content 0 0 is es → Spine is (length es) [] elements
   fresh : {is : List Item} {n : ℕ} {up : List Open} {h : Held} {js : List Item} → Spine is n up h → Free h → (w : List ℕ) → word w ≡ true → Blanks js →
-    Spine (is ++ (opening w ∷ js)) (n + 1) (opened w (size is) n ∷ up) blanks
+      Spine (is ++ (opening w ∷ js)) (n + 1) (opened w (size is) n ∷ up) blanks
   inner : {is : List Item} {n : ℕ} {up : List Open} {h : Held} {js : List Item} {es : List Entry} → Spine is n up h → Free h → (w : List ℕ) → word w ≡ true →
-    Content (size is + length (bytes (opening w))) (suc (length up)) js es →
-    Spine (is ++ (opening w ∷ js)) (n + 1 + length es) (opened w (size is) n ∷ up) elements
+      Content (size is + length (bytes (opening w))) (suc (length up)) js es →
+      Spine (is ++ (opening w ∷ js)) (n + 1 + length es) (opened w (size is) n ∷ up) elements
   filled : {is : List Item} {n : ℕ} {up : List Open} {h : Held} {bs cs : List Item} → Spine is n up h → Free h → (w : List ℕ) → word w ≡ true →
-    Blanks bs → (ds : List ℕ) (v : ℤ) → Number ds v → Blanks cs →
-    Spine (is ++ (opening w ∷ (bs ++ num ds ∷ cs))) (n + 1) (opened w (size is) n ∷ up) (value v)
+      Blanks bs → (ds : List ℕ) (v : ℤ) → Number ds v → Blanks cs →
+      Spine (is ++ (opening w ∷ (bs ++ num ds ∷ cs))) (n + 1) (opened w (size is) n ∷ up) (value v)
 
 at-nodes : {is : List Item} {up : List Open} {h : Held} (m n : ℕ) → m ≡ n → Spine is m up h → Spine is n up h
 at-nodes {is} {up} {h} m n e s = subst (λ k. Spine is k up h) e s

@@ -1,7 +1,7 @@
 -- The forms of a tag, and what its reading does.
-use mathlib.Core.List.{List, [], _∷_, _++_}
+use mathlib.Core.List.{List, [], _∷_}
 use mathlib.Core.Path.{_≡_, refl, sym, ap, subst, _∙_}
-use Prim.Native.Nat.{ℕ, suc, _+_, _-_, _<_, _≤_}
+use Prim.Native.Nat.{ℕ, _+_, _-_, _<_, _≤_}
 use native.Mathlib.Omega.{arith}
 use lib.ListN.{length, take, drop, length-append, length-drop}
 use lib.Seq.{length-take-le}
@@ -9,7 +9,7 @@ use Rattle.std.proofs.shelf.Lists.{take-all}
 use Rattle.record_text.specs.declared.tags.TagForm.{TagForm}
 use Rattle.record_text.specs.declared.tags.TagForm.the-variants.{Opening, Closing, Alone, Bad}
 use Rattle.record_text.specs.declared.turn.Turn.{Turn}
-use Rattle.record_text.specs.Grammar.{Item, tag, bytes}
+use Rattle.record_text.specs.Grammar.{tag, bytes}
 use Rattle.record_text.specs.Tags.{form}
 use Rattle.record_text.specs.Cutter.{part}
 use Rattle.record_text.specs.Machine.{Shape, Tag, opens, closes, whole, bad, tagOf}

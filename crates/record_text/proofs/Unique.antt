@@ -1,21 +1,19 @@
 -- One answer, and one list of entries.
-use mathlib.Core.List.{List, [], _∷_, _++_, append-nil}
+use mathlib.Core.List.{List, [], _++_, append-nil}
 use mathlib.Core.Path.{_≡_, refl, sym, ap, subst, _∙_}
-use Prim.Native.Nat.{ℕ, _+_, _≤_}
+use Prim.Native.Nat.{_+_}
 use native.Mathlib.Omega.{arith}
-use lib.ListN.{length, take, drop, length-append}
+use lib.ListN.{length, take, length-append}
 use Rattle.std.proofs.shelf.Lists.{take-at}
 use Rattle.record_text.specs.declared.entry.Entry.{Entry}
-use Rattle.record_text.specs.Grammar.{Item, text, Content, WellFormed}
+use Rattle.record_text.specs.Grammar.{Item, text, Content}
 use Rattle.record_text.specs.Items.{Cut}
-use Rattle.record_text.specs.Reading.{Outcome, Answer}
-use Rattle.record_text.specs.Items.{ItemsOf}
 use Rattle.record_text.specs.Laws.{OneAnswer, OneList, OneCut, FitsInText}
-use Rattle.record_text.specs.Machine.{Shape, shape, elements}
+use Rattle.record_text.specs.Machine.{elements}
 use Rattle.record_text.proofs.Complete.{content-run}
 use Rattle.record_text.proofs.Lex.{items, cut-lex, items-text, items-cut}
 use Rattle.record_text.proofs.Cuts.{content-cut}
-use Rattle.record_text.proofs.Read.{read, read-answers, start, some-same}
+use Rattle.record_text.proofs.Read.{read, read-answers, some-same}
 use Rattle.record_text.proofs.Only.{only, items-are}
 use Rattle.record_text.proofs.Fill.{content-fill}
 

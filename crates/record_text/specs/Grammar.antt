@@ -59,15 +59,15 @@ mutual
     nothing : {p d : ℕ} → Content p d [] []
     blank : {p d : ℕ} {is : List Item} {es : List Entry} → Content p d is es → (b : ℕ) → kind b ≡ Blank → Content p d (is ++ gap b ∷ []) es
     element : {p d : ℕ} {is : List Item} {es : List Entry} {js : List Item} {fs : List Entry} → Content p d is es → Element (p + size is) d js fs →
-      Content p d (is ++ js) (es ++ fs)
+        Content p d (is ++ js) (es ++ fs)
 
   pub data Element : ℕ → ℕ → List Item → List Entry → Type 0 where
     hollow : {p d : ℕ} → (w : List ℕ) → word w ≡ true →
-      Element p d (alone w ∷ []) (branch p (p + size (alone w ∷ [])) (length w) d ∷ [])
+        Element p d (alone w ∷ []) (branch p (p + size (alone w ∷ [])) (length w) d ∷ [])
     around : {p d : ℕ} {is : List Item} {es : List Entry} → (w : List ℕ) → word w ≡ true → Content (p + length (bytes (opening w))) (suc d) is es →
-      Element p d (opening w ∷ (is ++ closing w ∷ [])) (branch p (p + size (opening w ∷ (is ++ closing w ∷ []))) (length w) d ∷ es)
+        Element p d (opening w ∷ (is ++ closing w ∷ [])) (branch p (p + size (opening w ∷ (is ++ closing w ∷ []))) (length w) d ∷ es)
     holding : {p d : ℕ} {bs cs : List Item} → (w : List ℕ) → word w ≡ true → Blanks bs → (ds : List ℕ) (v : ℤ) → Number ds v → Blanks cs →
-      Element p d (opening w ∷ (bs ++ num ds ∷ (cs ++ closing w ∷ [])))
+        Element p d (opening w ∷ (bs ++ num ds ∷ (cs ++ closing w ∷ [])))
         (leaf p (p + size (opening w ∷ (bs ++ num ds ∷ (cs ++ closing w ∷ [])))) (length w) d v ∷ [])
 
 -- A text is well formed, with its entries, when it is the text of items that are content.

@@ -7,7 +7,6 @@ pub mod Reading
 pub mod Opening
 pub mod Shape
 pub mod Laws
-
 -- A functional model of the reader, which the laws above tie to the grammar, and how the code follows it.
 pub mod Machine
 pub mod Pass

@@ -11,7 +11,7 @@ use Rattle.std.specs.declared.option.Option.the-variants.{Some, None}
 use Rattle.lexical.specs.Words.{word}
 use Rattle.lexical.specs.Numbers.{number}
 use Rattle.record_text.specs.Grammar.{Item, gap, tag, num, stray, lone, bytes}
-use Rattle.record_text.specs.Items.{Role, space, less, greater, figure, plain, role}
+use Rattle.record_text.specs.Items.{space, less, greater, figure, plain, role}
 
 -- an opening tag whose closing tag is to come: its name, its place and its node's number
 pub record Open : Type 0 where
@@ -119,4 +119,3 @@ lex (in-num ds) (b ∷ t) =
 
 abbrev pub items : List ℕ → List Item
 items t = lex idle t
-

@@ -9,7 +9,7 @@ use Rattle.record_text.specs.declared.turn.Turn.{Turn}
 use Rattle.record_text.specs.declared.turn.Turn.the-variants as turn
 use Rattle.record_text.specs.Grammar.{Item}
 use Rattle.record_text.specs.Machine.{Shape, Tag, move, move-tag}
-use Rattle.record_text.specs.Reading.{Outcome, misfit, limit}
+use Rattle.record_text.specs.Reading.{misfit, limit}
 use Rattle.record_text.specs.Pass.{starts, full, over, check, Done, done-by, done-by-tag, done}
 
 -- one item at p: whether it is over, where it moves the reader, what it completes; s′ is the shape afterwards

@@ -34,7 +34,10 @@ impl Cutter {
     pub fn new() -> Cutter
         ensures { λ r. ⌜ r ≡ record { at = 0; state = State.Between } ⌝ }
     {
-        Cutter { at: 0, state: State::Between }
+        Cutter {
+            at: 0,
+            state: State::Between,
+        }
     }
 
     // One step. A number ends before the byte that is none of its own, so that byte is left to the next step.

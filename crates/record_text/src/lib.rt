@@ -2,6 +2,7 @@
 mod cutter;
 mod entry;
 mod laws;
+mod limits;
 mod names;
 mod nest;
 mod reader;
@@ -14,4 +15,5 @@ pub use laws::keeps_shape;
 pub use laws::one_answer;
 pub use laws::one_cut;
 pub use laws::one_list;
+pub use limits::MOST_NODES;
 pub use reader::open;

@@ -6,20 +6,18 @@ ghost use Rattle.record_text.specs.Cutter.{Good, from, left, steps-left};
 ghost use Rattle.record_text.specs.Nest.{Ready, shape-of};
 ghost use Rattle.record_text.specs.Opening.{Opened, answered};
 ghost use Rattle.record_text.specs.Pass.{at-end, check, entries, read};
-ghost use Rattle.record_text.specs.Passing.{Faultless, outcome};
+ghost use Rattle.record_text.specs.Passing.{Faultless, Verdict, outcome};
 ghost use Rattle.record_text.specs.Reading.{Answer, Outcome};
 ghost use Rattle.record_text.specs.Turns.{Onward};
 use crate::cutter::Cutter;
 use crate::cutter::Ended;
 use crate::cutter::State;
 use crate::entry::Entry;
+use crate::limits::MOST_LEVELS;
 use crate::nest::Nest;
 use crate::nest::OpenTag;
 use crate::turn::Turn;
 use refusals::Refusal;
-
-// As many elements may lie in one another.
-const MOST_LEVELS: usize = 32;
 
 // One step: cuts at the next byte, and passes the item that ended there. It has one caller, so that it is compiled into the loop.
 fn advance(text: &[u8], cutter: &mut Cutter, nest: &mut Nest<'_>) -> Turn
@@ -79,7 +77,11 @@ fn pass(text: &[u8], list: &mut [Entry]) -> Result<usize, Refusal>
     ensures answer { λ r. ⌜ r ≡ outcome (read (now (text .entry))) ⌝ }
     ensures filled { λ _. ⌜ (Faultless (now (text .entry)) → now (list .exit) ≡ entries (now (text .entry)) (now (list .entry))) ⌝ }
 {
-    let mut slots = [OpenTag { place: 0, name_len: 0, node: 0 }; MOST_LEVELS];
+    let mut slots = [OpenTag {
+        place: 0,
+        name_len: 0,
+        node: 0,
+    }; MOST_LEVELS];
     let mut nest = Nest::over(&mut slots);
     let mut cutter = Cutter::new();
     while cutter.at < text.len() {
@@ -93,16 +95,25 @@ fn pass(text: &[u8], list: &mut [Entry]) -> Result<usize, Refusal>
     finish(text, &cutter, &mut nest)
 }
 
-// Writes one entry a node of the text into the list, and answers how many there are. A pass over the text comes first that writes
-// nothing, so a refusal leaves the list as it was.
-pub fn open(text: &[u8], list: &mut [Entry]) -> Result<usize, Refusal>
-    ensures opened { λ r. ⌜ Opened (now (text .entry)) (now (list .entry)) r (now (list .exit)) ⌝ }
+// What `open` answers, before anything is written: a pass over the text that writes nothing, and then the room in the list.
+fn verdict(text: &[u8], list: &[Entry]) -> Result<usize, Refusal>
+    ensures answer { λ r. ⌜ Verdict (now (text .entry)) (now (list .entry)) r ⌝ }
     ensures only { λ r. ⌜ ((o : Outcome) → Answer (now (text .entry)) o → r ≡ answered (length (now (list .entry))) o) ⌝ }
 {
     let nodes = pass(text, &mut [])?;
     if nodes > list.len() {
         return Err(Refusal::Short);
     }
+    Ok(nodes)
+}
+
+// Writes one entry a node of the text into the list, and answers how many there are. Nothing is written before the whole text is
+// read, so a refusal leaves the list as it was.
+pub fn open(text: &[u8], list: &mut [Entry]) -> Result<usize, Refusal>
+    ensures opened { λ r. ⌜ Opened (now (text .entry)) (now (list .entry)) r (now (list .exit)) ⌝ }
+    ensures only { λ r. ⌜ ((o : Outcome) → Answer (now (text .entry)) o → r ≡ answered (length (now (list .entry))) o) ⌝ }
+{
+    let nodes = verdict(text, list)?;
     let _ = pass(text, list);
     Ok(nodes)
 }

@@ -21,10 +21,22 @@ pub fn tag_of(body: &[u8]) -> TagForm
         return TagForm::Bad;
     }
     if body[0] == b'/' {
-        return if is_word(&body[1..n]) { TagForm::Closing } else { TagForm::Bad };
+        return if is_word(&body[1..n]) {
+            TagForm::Closing
+        } else {
+            TagForm::Bad
+        };
     }
     if body[n - 1] == b'/' {
-        return if is_word(&body[0..n - 1]) { TagForm::Alone } else { TagForm::Bad };
+        return if is_word(&body[0..n - 1]) {
+            TagForm::Alone
+        } else {
+            TagForm::Bad
+        };
     }
-    if is_word(body) { TagForm::Opening } else { TagForm::Bad }
+    if is_word(body) {
+        TagForm::Opening
+    } else {
+        TagForm::Bad
+    }
 }

@@ -1,29 +1,46 @@
 ghost use denote.Ref.{name};
 ghost use lib.Dec.{leb, ltb};
-ghost use lib.ListN.{getD, length, set};
+ghost use lib.ListN.{getD, length, set, take};
 ghost use mathlib.Core.Bool.{cond};
 ghost use mathlib.Core.List.{[], _++_, _∷_};
 ghost use mathlib.Core.Path.{_≡_};
-ghost use Prim.Native.Nat.{_<_};
+ghost use Prim.Native.Nat.{_+_, _-_, _≤_};
 ghost use Rattle.lent.specs.Stacks.{held, lent, older, room};
-ghost use Rattle.std.specs.Options.{isSome};
+ghost use Rattle.std.specs.Options.{Cases as BySome, isSome};
 ghost use Rattle.std.specs.Vec.{listOf};
 use super::Stack;
 
-// Reads a slot of the whole slice that was lent.
-fn read_slot<T: Copy>(slots: &[T], i: usize) -> T
-    requires { ⌜ i < length (now slots) ⌝ }
-    ensures { λ r. ⌜ r ≡ getD (now (slots .entry)) i r ⌝ }
+// How many of `count` entries lie in the slots.
+fn front_len<T: Copy>(slots: &[T], count: usize) -> usize
+    ensures len { λ r. ⌜ r ≡ length (take count (now (slots .entry))) ⌝ }
+    ensures within { λ r. ⌜ r ≤ length (now (slots .entry)) ⌝ }
 {
-    slots[i]
+    count.min(slots.len())
 }
 
-// Writes a slot of the whole slice that was lent.
-fn write_slot<T: Copy>(slots: &mut [T], i: usize, x: T)
-    requires { ⌜ i < length (now slots) ⌝ }
-    ensures { λ _. ⌜ now (slots .exit) ≡ set (now (slots .entry)) i x ⌝ }
+// The last of `count` entries at the front of the slots.
+fn last_of<T: Copy>(slots: &[T], count: usize) -> Option<T>
+    ensures test { λ r. ⌜ isSome r ≡ ltb 0 (length (take count (now (slots .entry)))) ⌝ }
+    ensures last { λ r. ⌜ take count (now (slots .entry)) ≡ take (length (take count (now (slots .entry))) - 1) (now (slots .entry)) ++ listOf r ⌝ }
 {
-    slots[i] = x;
+    let n = front_len(slots, count);
+    if n == 0 {
+        return None;
+    }
+    Some(slots[n - 1])
+}
+
+// Writes one entry more behind `count` entries at the front of the slots, and answers how many lie there now; none where there is no
+// room.
+fn put_behind<T: Copy>(slots: &mut [T], count: usize, x: T) -> Option<usize>
+    ensures { λ r. ⌜ BySome r ((length (now (slots .entry)) ≤ length (take count (now (slots .entry)))) × (now (slots .exit) ≡ now (slots .entry))) (λ n. (n ≡ length (take count (now (slots .entry))) + 1) × (n ≤ length (now (slots .entry))) × (now (slots .exit) ≡ set (now (slots .entry)) (length (take count (now (slots .entry)))) x) × (take n (now (slots .exit)) ≡ take count (now (slots .entry)) ++ x ∷ [])) ⌝ }
+{
+    let at = front_len(slots, count);
+    if at >= slots.len() {
+        return None;
+    }
+    slots[at] = x;
+    Some(at + 1)
 }
 
 impl<'a, T: Copy> Stack<'a, T> {
@@ -40,7 +57,7 @@ impl<'a, T: Copy> Stack<'a, T> {
     pub fn len(&self) -> usize
         ensures { λ r. ⌜ r ≡ length (held (now (self .entry))) ⌝ }
     {
-        self.count.min(self.slots.len())
+        front_len(self.slots, self.count)
     }
 
     // Whether there is room for no further entry.
@@ -58,12 +75,11 @@ impl<'a, T: Copy> Stack<'a, T> {
         ensures room { λ _. ⌜ room (now (self .exit)) ≡ room (now (self .entry)) ⌝ }
         ensures same { λ _. ⌜ name (now (self .exit) .slots) ≡ name (now (self .entry) .slots) ⌝ }
     {
-        let at = self.len();
-        if at >= self.slots.len() {
+        let count = self.count;
+        let Some(more) = put_behind(self.slots, count, x) else {
             return false;
-        }
-        write_slot(self.slots, at, x);
-        self.count = at + 1;
+        };
+        self.count = more;
         true
     }
 
@@ -72,11 +88,7 @@ impl<'a, T: Copy> Stack<'a, T> {
         ensures test { λ r. ⌜ isSome r ≡ ltb 0 (length (held (now (self .entry)))) ⌝ }
         ensures held { λ r. ⌜ held (now (self .entry)) ≡ older (now (self .entry)) ++ listOf r ⌝ }
     {
-        let n = self.len();
-        if n == 0 {
-            return None;
-        }
-        Some(read_slot(self.slots, n - 1))
+        last_of(self.slots, self.count)
     }
 
     // Takes the newest entry off.

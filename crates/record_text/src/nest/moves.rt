@@ -14,6 +14,7 @@ use super::Held;
 use super::Nest;
 use super::OpenTag;
 use crate::entry::Entry;
+use crate::limits::MOST_NODES;
 use crate::names::has_name;
 use crate::tags::TagForm;
 use crate::tags::tag_of;
@@ -21,15 +22,13 @@ use crate::turn::Turn;
 use lent::Stack;
 use lexical::number;
 
-pub const MOST_NODES: usize = 4096;
-
 // The entry of an element that holds this.
 fn entry(held: Held, start: usize, end: usize, name_len: usize, depth: usize) -> Entry
     ensures { λ r. ⌜ r ≡ entry-of start (held-of held) end «name_len» depth ⌝ }
 {
     match held {
-        Held::Value(value) => Entry { start, end, name_len, depth, leaf: true, value },
-        Held::Blanks | Held::Elements => Entry { start, end, name_len, depth, leaf: false, value: 0 },
+        Held::Value(value) => Entry::leaf(start, end, name_len, depth, value),
+        Held::Blanks | Held::Elements => Entry::branch(start, end, name_len, depth),
     }
 }
 
@@ -47,7 +46,11 @@ impl<'s> Nest<'s> {
         ensures ready { λ r. ⌜ Ready r ⌝ }
         ensures first { λ r. ⌜ ((t : List ℕ) → shape-of t r ≡ first) ⌝ }
     {
-        Nest { nodes: 0, held: Held::Elements, tags: Stack::over(slots) }
+        Nest {
+            nodes: 0,
+            held: Held::Elements,
+            tags: Stack::over(slots),
+        }
     }
 
     // Whether one element more would be a node too many or lie too deep.
@@ -86,7 +89,11 @@ impl<'s> Nest<'s> {
             return Turn::Limit(place);
         }
         let node = self.nodes;
-        let _ = self.tags.push(OpenTag { place, name_len, node });
+        let _ = self.tags.push(OpenTag {
+            place,
+            name_len,
+            node,
+        });
         self.nodes = node + 1;
         self.held = Held::Blanks;
         Turn::On
@@ -107,7 +114,10 @@ impl<'s> Nest<'s> {
         let node = self.nodes;
         self.nodes = node + 1;
         self.held = Held::Elements;
-        Turn::Done(node, entry(Held::Elements, start, end, name_len, self.tags.len()))
+        Turn::Done(
+            node,
+            entry(Held::Elements, start, end, name_len, self.tags.len()),
+        )
     }
 
     // A closing tag, from `place` to `end`.
@@ -124,7 +134,10 @@ impl<'s> Nest<'s> {
         }
         let held = self.held;
         self.held = Held::Elements;
-        Turn::Done(tag.node, entry(held, tag.place, end, name.len(), self.tags.len()))
+        Turn::Done(
+            tag.node,
+            entry(held, tag.place, end, name.len(), self.tags.len()),
+        )
     }
 
     // The tag whose `<` stands at `start` and whose `>` stands at `at`.

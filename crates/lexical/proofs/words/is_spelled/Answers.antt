@@ -5,10 +5,8 @@ use mathlib.Core.Path.{_≡_, refl, sym, ap, _∙_}
 use Prim.Native.Nat.{ℕ, _+_, _<_}
 use native.Mathlib.Omega.{arith}
 use borrow.Author.Needs.{needs}
-use lib.Dec.{eqb}
 use lib.ListN.{length, getD, drop}
 use Rattle.std.proofs.shelf.Lists.{at-drop-more, at-drop-all, nil-from-length}
-use Rattle.std.proofs.shelf.Tests.{eqb-true, eqb-false}
 use Rattle.lexical.specs.declared.kinds.Kind.{Kind}
 use Rattle.lexical.specs.declared.kinds.Kind.the-variants.{Letter, Digit, Hyphen, Point, Less, Greater, Slash, Blank, Other}
 use Rattle.lexical.specs.Kinds.{kind}

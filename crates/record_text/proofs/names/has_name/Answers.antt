@@ -1,4 +1,4 @@
-use mathlib.Core.Path.{refl, ap, _∙_}
+use mathlib.Core.Path.{ap, _∙_}
 use Rattle.std.proofs.shelf.Equals.{matches-decides, compares-decides}
 use Rattle.std.proofs.shelf.Ways.{same-from-decides}
 use borrow.Author.Needs.{needs}

@@ -23,7 +23,7 @@ returns-in-Number c =
       falls = e .falls;
       ready = c .number .ensures .ready;
       onward =
-        ends-number t (c .args .cutter .now) (c .step .last .self) (c .pre .1 .0) (e .good) (shape-of t (c .args .nest .now)) (shape-of t (c .number .last .self))
+          ends-number t (c .args .cutter .now) (c .step .last .self) (c .pre .1 .0) (e .good) (shape-of t (c .args .nest .now)) (shape-of t (c .number .last .self))
           (c .in-Number .start) (c .number .result) (e .cuts) (c .number .ensures .went t);
     }
 
@@ -36,6 +36,6 @@ returns-in-Tag c =
       falls = e .falls;
       ready = c .tag .ensures .ready;
       onward =
-        ends-tag t (c .args .cutter .now) (c .step .last .self) (c .pre .1 .0) (e .good) (shape-of t (c .args .nest .now)) (shape-of t (c .tag .last .self))
+          ends-tag t (c .args .cutter .now) (c .step .last .self) (c .pre .1 .0) (e .good) (shape-of t (c .args .nest .now)) (shape-of t (c .tag .last .self))
           (c .in-Tag .start) (c .tag .result) (e .cuts) (c .tag .ensures .went);
     }

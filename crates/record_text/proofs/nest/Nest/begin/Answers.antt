@@ -29,8 +29,9 @@ returns c =
     let more : held (c .push .last .self) ≡ os ++ o ∷ [] = e .held ∙ ap (λ b. cond b (os ++ o ∷ []) os) fits in
     record {
       ready = e .room ∙ c .pre;
-      went = λ t q.
-        ( full-ups t (s .nodes) os false (c .if-is-full .ensures tt)
-        , free-held (s .held) _ (c .in-rest .not-Value) ∙ ap (λ u. some (shape (s .nodes + 1) u blanks)) (sym (ap (ups t) more ∙ ups-push t os o))
-        , refl );
+      went = λ t q. (
+        full-ups t (s .nodes) os false (c .if-is-full .ensures tt),
+        free-held (s .held) _ (c .in-rest .not-Value) ∙ ap (λ u. some (shape (s .nodes + 1) u blanks)) (sym (ap (ups t) more ∙ ups-push t os o)),
+        refl,
+      );
     }

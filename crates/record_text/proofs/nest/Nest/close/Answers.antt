@@ -1,5 +1,5 @@
 use mathlib.Core.Bool.{true, false}
-use mathlib.Core.Path.{_≡_, refl, sym, ap, _∙_}
+use mathlib.Core.Path.{refl, ap, _∙_}
 use lib.ListN.{length}
 use Rattle.lent.specs.Stacks.{held}
 use Rattle.record_text.specs.Nest.{held-of}
@@ -32,8 +32,9 @@ returns c =
     let e = c .in-Some .ensures tt in
     record {
       ready = ap length (e .lent) ∙ c .pre;
-      went =
-        ( refl
-        , close-tag t w (s .nodes) (held (s .tags)) _ (c .in-Some .tag) (e .held) true (c .if-not-is-named .ensures tt)
-        , close-done t w (s .nodes) (held (s .tags)) _ (c .in-Some .tag) (e .held) (c .args .end) (held-of (s .held)) (c .len .result) (c .entry .result) (c .len .ensures) (c .entry .ensures) );
+      went = (
+        refl,
+        close-tag t w (s .nodes) (held (s .tags)) _ (c .in-Some .tag) (e .held) true (c .if-not-is-named .ensures tt),
+        close-done t w (s .nodes) (held (s .tags)) _ (c .in-Some .tag) (e .held) (c .args .end) (held-of (s .held)) (c .len .result) (c .entry .result) (c .len .ensures) (c .entry .ensures),
+      );
     }

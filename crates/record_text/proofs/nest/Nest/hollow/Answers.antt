@@ -17,8 +17,9 @@ returns c =
     let s = c .args .self .now in
     record {
       ready = c .pre;
-      went = λ t w e.
-        ( full-ups t (s .nodes) (held (s .tags)) false (c .if-is-full .ensures tt)
-        , free-held (s .held) _ (c .in-rest .not-Value)
-        , alone-done t w (held (s .tags)) (s .nodes) (c .args .start) (c .args .end) (c .args .name-len) (c .len .result) (c .entry .result) e (c .len .ensures) (c .entry .ensures) );
+      went = λ t w e. (
+        full-ups t (s .nodes) (held (s .tags)) false (c .if-is-full .ensures tt),
+        free-held (s .held) _ (c .in-rest .not-Value),
+        alone-done t w (held (s .tags)) (s .nodes) (c .args .start) (c .args .end) (c .args .name-len) (c .len .result) (c .entry .result) e (c .len .ensures) (c .entry .ensures),
+      );
     }

@@ -1,12 +1,9 @@
-use mathlib.Core.List.{List}
-use mathlib.Core.Path.{_≡_, refl, sym, ap, subst, _∙_}
-use Prim.Native.Nat.{ℕ, _+_, _-_, _≤_}
+use mathlib.Core.Path.{sym, ap, _∙_}
+use Prim.Native.Nat.{_+_, _-_}
 use native.Mathlib.Omega.{arith}
-use lib.ListN.{length}
 use Rattle.record_text.specs.Cutter.{part}
 use Rattle.record_text.specs.Machine.{opens}
 use Rattle.record_text.specs.Nest.{shape-of}
-use Rattle.record_text.specs.Turns.{WentTag}
 use Rattle.record_text.proofs.TagForms.{opening-is, closing-is, alone-is, went-as, part-again, tag-end}
 use Rattle.record_text.proofs.nest.Nest.tag.Needs as need
 
@@ -36,7 +33,7 @@ returns-in-Opening c =
     record {
       ready = e .ready;
       went = went-as p (z + 1) (shape-of t (c .args .self .now)) (shape-of t (c .begin .last .self)) b _ (c .begin .result) (opening-is b (c .tag-of .result) (c .tag-of .ensures) (c .in-Opening .is) ∙ ap opens (sym (part-again t (p + 1) z (omega arith) (omega arith))))
-        (tag-end t p z (omega arith) (omega arith)) (e .went t (z + 1));
+          (tag-end t p z (omega arith) (omega arith)) (e .went t (z + 1));
     }
 
 pub returns-in-Closing : need.returns-in-Closing

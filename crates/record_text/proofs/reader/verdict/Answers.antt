@@ -4,10 +4,10 @@ use Rattle.std.specs.Results.{ErrBy}
 use Rattle.std.specs.declared.result.Result.{Result}
 use Rattle.std.specs.declared.result.Result.the-variants.{Ok, Err}
 use Rattle.refusals.specs.declared.Refusal.{Refusal}
-use Rattle.record_text.specs.Opening.{Opened}
+use Rattle.record_text.specs.Passing.{Verdict}
 use Rattle.record_text.specs.Pass.{read}
 use Rattle.record_text.proofs.Opens.{counted, refused, only-refused, too-short, only-short, filled, only-filled}
-use Rattle.record_text.proofs.reader.open.Needs as need
+use Rattle.record_text.proofs.reader.verdict.Needs as need
 
 -- `?` hands the refusal on as it is
 err-from : (r : Result ℕ Refusal) (e : Refusal) → ErrBy r (λ f. f ≡ e) → r ≡ Err e
@@ -21,7 +21,7 @@ returns-in-Break-nodes c =
     let e = c .in-Break-nodes .field-0 .0 in
     let q : c .from-residual .result ≡ Err e = err-from (c .from-residual .result) e (c .from-residual .ensures .1) in
     record {
-      opened = subst (λ r. Opened t l r l) (sym q) (refused t l e (c .in-Break-nodes .ensures tt .answer), refl);
+      answer = subst (Verdict t l) (sym q) (refused t l e (c .in-Break-nodes .ensures tt .answer), refl);
       only = λ o a. q ∙ only-refused t l e (c .in-Break-nodes .ensures tt .answer) o a;
     }
 
@@ -31,7 +31,7 @@ returns-then-nodes-list c =
     let l = c .args .list .now in
     let n = c .in-Continue-nodes .nodes in
     let e = c .in-Continue-nodes .ensures tt .answer in
-    record { opened = (too-short t l n e (c .if-nodes-list .taken), refl); only = only-short t l n e (c .if-nodes-list .taken) }
+    record { answer = (too-short t l n e (c .if-nodes-list .taken), refl); only = only-short t l n e (c .if-nodes-list .taken) }
 
 pub returns : need.returns
 returns c =
@@ -40,6 +40,6 @@ returns c =
     let n = c .in-Continue-nodes .nodes in
     let e = c .in-Continue-nodes .ensures tt .answer in
     record {
-      opened = filled t l n e (c .if-nodes-list .left) (c .pass-2 .last .list) (c .pass-2 .ensures .filled (n, counted (read t) n e));
+      answer = ((n, counted (read t) n e), filled t l n e (c .if-nodes-list .left));
       only = only-filled t l n e (c .if-nodes-list .left);
     }
