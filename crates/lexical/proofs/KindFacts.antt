@@ -1,4 +1,4 @@
--- What the kind of a byte says of the byte, for digits, the hyphen and the point.
+-- What the kind of a byte says of the byte, for digits, the hyphen, the point and the slash.
 use mathlib.Core.Bool.{Bool, true, false, cond}
 use mathlib.Core.Path.{_≡_, refl, sym, ap, subst, _∙_}
 use Prim.Native.Nat.{ℕ, _≤_}
@@ -21,25 +21,25 @@ digit-kind b e =
     rw (x, y, e) refl
 
 -- the test that a kind has passed
-abbrev Passed : Bool → Bool → Bool → Kind → Type 0
-Passed d h p Letter = Unit {0}
-Passed d h p Digit = d ≡ true
-Passed d h p Hyphen = h ≡ true
-Passed d h p Point = p ≡ true
-Passed d h p Less = Unit {0}
-Passed d h p Greater = Unit {0}
-Passed d h p Slash = Unit {0}
-Passed d h p Blank = Unit {0}
-Passed d h p Other = Unit {0}
+abbrev Passed : Bool → Bool → Bool → Bool → Kind → Type 0
+Passed d h p s Letter = Unit {0}
+Passed d h p s Digit = d ≡ true
+Passed d h p s Hyphen = h ≡ true
+Passed d h p s Point = p ≡ true
+Passed d h p s Less = Unit {0}
+Passed d h p s Greater = Unit {0}
+Passed d h p s Slash = s ≡ true
+Passed d h p s Blank = Unit {0}
+Passed d h p s Other = Unit {0}
 
-passed : (l d h p a b c e : Bool) → Passed d h p (cond l Letter (cond d Digit (cond h Hyphen (cond p Point (cond a Less (cond b Greater (cond c Slash (cond e Blank Other))))))))
+passed : (l d h p a b c e : Bool) → Passed d h p c (cond l Letter (cond d Digit (cond h Hyphen (cond p Point (cond a Less (cond b Greater (cond c Slash (cond e Blank Other))))))))
 passed true d h p a b c e = tt
 passed false true h p a b c e = refl
 passed false false true p a b c e = refl
 passed false false false true a b c e = refl
 passed false false false false true b c e = tt
 passed false false false false false true c e = tt
-passed false false false false false false true e = tt
+passed false false false false false false true e = refl
 passed false false false false false false false true = tt
 passed false false false false false false false false = tt
 
@@ -48,10 +48,10 @@ otherwise true f = absurd (f refl)
 otherwise false f = refl
 
 module _ (b : ℕ) (k : Kind) (e : k ≡ kind b) where
-  kind-passed : (m : Kind) → k ≡ m → Passed (digit b) (eqb b 45) (eqb b 46) m
+  kind-passed : (m : Kind) → k ≡ m → Passed (digit b) (eqb b 45) (eqb b 46) (eqb b 47) m
   unfolding kind
   kind-passed m f =
-      subst (Passed (digit b) (eqb b 45) (eqb b 46)) (sym e ∙ f)
+      subst (Passed (digit b) (eqb b 45) (eqb b 46) (eqb b 47)) (sym e ∙ f)
       (passed (letter b) (digit b) (eqb b 45) (eqb b 46) (eqb b 60) (eqb b 62) (eqb b 47) (blank b))
 
   pub is-digit : k ≡ Digit → digit b ≡ true
@@ -63,6 +63,9 @@ module _ (b : ℕ) (k : Kind) (e : k ≡ kind b) where
   pub is-hyphen : k ≡ Hyphen → eqb b 45 ≡ true
   is-hyphen f = kind-passed Hyphen f
 
+  pub is-slash : k ≡ Slash → eqb b 47 ≡ true
+  is-slash f = kind-passed Slash f
+
   pub no-digit : (k ≡ Digit → ⊥) → digit b ≡ false
   no-digit f = otherwise (digit b) (λ d. f (e ∙ digit-kind b d))
 
@@ -73,3 +76,7 @@ module _ (b : ℕ) (k : Kind) (e : k ≡ kind b) where
   pub no-hyphen : (k ≡ Hyphen → ⊥) → eqb b 45 ≡ false
   unfolding kind
   no-hyphen f = otherwise (eqb b 45) (λ d. f (e ∙ ap kind (eqb-true b 45 d)))
+
+  pub no-slash : (k ≡ Slash → ⊥) → eqb b 47 ≡ false
+  unfolding kind
+  no-slash f = otherwise (eqb b 47) (λ d. f (e ∙ ap kind (eqb-true b 47 d)))

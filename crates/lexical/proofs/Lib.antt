@@ -1,3 +1,3 @@
-mod KindFacts
+pub mod KindFacts
 mod RoundingFacts
 pub mod NumberFacts

@@ -1,8 +1,11 @@
 // The forms of a tag: `<name>`, `</name>` and `<name/>`.
+ghost use lib.Dec.{eqb};
 ghost use mathlib.Core.Path.{_≡_};
 ghost use Rattle.record_text.specs.Tags.{form};
 ghost use Rattle.record_text.specs.Machine.{tagOf};
+use lexical::Kind;
 use lexical::is_word;
+use lexical::kind_of;
 
 #[derive(Clone, Copy)]
 pub enum TagForm {
@@ -10,6 +13,12 @@ pub enum TagForm {
     Closing,
     Alone,
     Bad,
+}
+
+fn is_slash(b: u8) -> bool
+    ensures { λ r. ⌜ r ≡ eqb b 47 ⌝ }
+{
+    matches!(kind_of(b), Kind::Slash)
 }
 
 // The form of a tag, by what stands between its `<` and its `>`.
@@ -20,14 +29,14 @@ pub fn tag_of(body: &[u8]) -> TagForm
     if n == 0 {
         return TagForm::Bad;
     }
-    if body[0] == b'/' {
+    if is_slash(body[0]) {
         return if is_word(&body[1..n]) {
             TagForm::Closing
         } else {
             TagForm::Bad
         };
     }
-    if body[n - 1] == b'/' {
+    if is_slash(body[n - 1]) {
         return if is_word(&body[0..n - 1]) {
             TagForm::Alone
         } else {
