@@ -14,7 +14,7 @@ use Rattle.record_text.specs.declared.entry.Entry.{Entry}
 use Rattle.record_text.specs.declared.nest.OpenTag.{OpenTag}
 use Rattle.record_text.specs.declared.nest.Held.the-variants as code
 use Rattle.record_text.specs.Entries.{branch}
-use Rattle.record_text.specs.Limits.{most-nodes, most-levels}
+use Rattle.records.specs.Limits.{most-nodes, most-levels}
 use Rattle.record_text.specs.Machine.{Shape, shape, elements, Held, same, close, free}
 use Rattle.record_text.specs.Nest.{name-of, open-of, ups, held-of}
 use Rattle.record_text.specs.Pass.{full, Done, entry-of, closed}

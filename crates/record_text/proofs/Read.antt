@@ -19,7 +19,7 @@ use Rattle.lexical.specs.Words.{word}
 use Rattle.lexical.specs.Numbers.{number}
 use Rattle.record_text.specs.Grammar.{Item, gap, tag, num, stray, lone, bytes, text, size, Fits}
 use Rattle.record_text.specs.Grammar.{nothing as no-content}
-use Rattle.record_text.specs.Limits.{most-nodes, most-levels}
+use Rattle.records.specs.Limits.{most-nodes, most-levels}
 use Rattle.record_text.specs.Items.{ItemsOf, Cut, Ends, space, less, greater, figure, plain, of-kind, role}
 use Rattle.record_text.specs.Reading.{slash-first, slash-last, begun-by, opened-by, closed-by, total, Over, Within, nothing, one-more, Answer}
 use Rattle.record_text.specs.Machine.{Open, Held, blanks, elements, value, Shape, shape, Tag, opens, closes, whole, bad, named, tagOf, same, close, move-num, move-tag, move, after, runs}

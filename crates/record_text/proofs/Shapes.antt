@@ -10,7 +10,7 @@ use lib.ListN.{length, length-append}
 use Rattle.std.proofs.shelf.Tests.{leb-false}
 use Rattle.record_text.specs.declared.entry.Entry.{Entry}
 use Rattle.lexical.proofs.NumberFacts.{number-rule}
-use Rattle.record_text.specs.Limits.{most-nodes, most-levels}
+use Rattle.records.specs.Limits.{most-nodes, most-levels}
 use Rattle.record_text.specs.Grammar.{Item, gap, tag, num, bytes, text, size, opening, closing, alone, Blanks, no-blank, one-more, Content, nothing, blank, element, Element, hollow, around, holding}
 use Rattle.record_text.specs.Reading.{Outcome, accepted}
 use Rattle.record_text.specs.Shape.{From, Shallow}

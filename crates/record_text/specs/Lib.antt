@@ -1,5 +1,4 @@
 -- Record text. To be read from top to bottom: what the contract of `open` rests on.
-pub mod Limits
 pub mod Entries
 pub mod Grammar
 pub mod Items

@@ -6,7 +6,7 @@ use Rattle.lent.specs.Stacks.{held, room}
 use Rattle.record_text.specs.declared.nest.Nest.{Nest}
 use Rattle.record_text.specs.declared.nest.OpenTag.{OpenTag}
 use Rattle.record_text.specs.declared.nest.Held.the-variants as code
-use Rattle.record_text.specs.Limits.{most-levels}
+use Rattle.records.specs.Limits.{most-levels}
 use Rattle.record_text.specs.Machine.{Open, opened, Held, blanks, elements, value, Shape, shape}
 use Rattle.record_text.specs.Cutter.{part}
 

@@ -7,7 +7,7 @@ use lib.Dec.{leb}
 use lib.ListN.{length, set}
 use Rattle.record_text.specs.declared.entry.Entry.{Entry}
 use Rattle.record_text.specs.Entries.{branch, leaf}
-use Rattle.record_text.specs.Limits.{most-nodes, most-levels}
+use Rattle.records.specs.Limits.{most-nodes, most-levels}
 use Rattle.record_text.specs.Grammar.{Item, gap, tag, num, stray, lone, bytes}
 use Rattle.record_text.specs.Reading.{Outcome, accepted, misfit, limit}
 use Rattle.record_text.specs.Machine.{Open, Held, blanks, elements, value, Shape, shape, Tag, opens, closes, whole, bad, tagOf, move, items}

@@ -7,7 +7,7 @@ use Prim.Native.Nat.{ℕ, _+_, _-_, _≤_}
 use lib.Dec.{eqb}
 use lib.ListN.{length, getD}
 use Rattle.record_text.specs.declared.entry.Entry.{Entry}
-use Rattle.record_text.specs.Limits.{most-nodes, most-levels}
+use Rattle.records.specs.Limits.{most-nodes, most-levels}
 use Rattle.record_text.specs.Grammar.{Item, gap, tag, num, stray, lone, size, Content, Fits}
 use Rattle.record_text.specs.Items.{ItemsOf}
 

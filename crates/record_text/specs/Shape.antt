@@ -4,7 +4,7 @@ use mathlib.Core.List.{List, [], _∷_}
 use Prim.Native.Nat.{ℕ, suc, _≤_, _<_}
 use lib.ListN.{length}
 use Rattle.record_text.specs.declared.entry.Entry.{Entry}
-use Rattle.record_text.specs.Limits.{most-nodes, most-levels}
+use Rattle.records.specs.Limits.{most-nodes, most-levels}
 
 -- the greatest depth that may follow a node: one more than a branch's, and a leaf's own
 abbrev pub next-depth : Entry → ℕ

@@ -2,7 +2,6 @@
 mod cutter;
 mod entry;
 mod laws;
-mod limits;
 mod names;
 mod nest;
 mod reader;
@@ -15,5 +14,4 @@ pub use laws::keeps_shape;
 pub use laws::one_answer;
 pub use laws::one_cut;
 pub use laws::one_list;
-pub use limits::MOST_NODES;
 pub use reader::open;

@@ -13,10 +13,10 @@ use crate::cutter::Cutter;
 use crate::cutter::Ended;
 use crate::cutter::State;
 use crate::entry::Entry;
-use crate::limits::MOST_LEVELS;
 use crate::nest::Nest;
 use crate::nest::OpenTag;
 use crate::turn::Turn;
+use records::MOST_LEVELS;
 use refusals::Refusal;
 
 // One step: cuts at the next byte, and passes the item that ended there. It has one caller, so that it is compiled into the loop.

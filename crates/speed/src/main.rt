@@ -1,8 +1,8 @@
 // Opens a text many times, for a measurement of speed. The first byte of the input says how often: `1` 2,001 times, another once.
 // The rest is the text. Prints the node count.
 use record_text::Entry;
-use record_text::MOST_NODES;
 use record_text::open;
+use records::MOST_NODES;
 use std::error::AnyError;
 use std::io::Read;
 

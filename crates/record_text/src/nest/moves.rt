@@ -5,7 +5,7 @@ ghost use Prim.Native.Nat.{ℕ, _+_, _<_};
 ghost use Rattle.lent.specs.Stacks.{held};
 ghost use Rattle.record_text.specs.Cutter.{part};
 ghost use Rattle.record_text.specs.Grammar.{num, tag};
-ghost use Rattle.record_text.specs.Limits.{most-levels};
+ghost use Rattle.records.specs.Limits.{most-levels};
 ghost use Rattle.record_text.specs.Machine.{closes, opens, same, whole};
 ghost use Rattle.record_text.specs.Nest.{Ready, held-of, name-of, shape-of};
 ghost use Rattle.record_text.specs.Pass.{entry-of, full, start as first};
@@ -14,13 +14,13 @@ use super::Held;
 use super::Nest;
 use super::OpenTag;
 use crate::entry::Entry;
-use crate::limits::MOST_NODES;
 use crate::names::has_name;
 use crate::tags::TagForm;
 use crate::tags::tag_of;
 use crate::turn::Turn;
 use lent::Stack;
 use lexical::number;
+use records::MOST_NODES;
 
 // The entry of an element that holds this.
 fn entry(held: Held, start: usize, end: usize, name_len: usize, depth: usize) -> Entry

@@ -1,9 +1,0 @@
--- The limits of a record.
-use Prim.Native.Nat.{ℕ}
-
-abbrev pub most-nodes : ℕ
-most-nodes = 4096
-
--- depths 0 to 31: as many elements may lie in one another
-abbrev pub most-levels : ℕ
-most-levels = 32

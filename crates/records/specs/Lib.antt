@@ -1,0 +1,4 @@
+-- Records: what any of them is, whatever it comes from. To be read from top to bottom.
+pub mod Limits
+pub mod Nodes
+pub mod Shapes

@@ -1,0 +1,8 @@
+// Records: five questions that can be put to any list of nodes, wherever it comes from.
+mod limits;
+mod record;
+
+pub use limits::GREATEST_VALUE;
+pub use limits::MOST_LEVELS;
+pub use limits::MOST_NODES;
+pub use record::Record;
