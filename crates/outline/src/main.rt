@@ -7,7 +7,9 @@ use std::io::Write;
 fn main(rt: LibcRuntime) -> io::Result<()> {
     let mut input = Vec::new(rt.alloc());
     // One byte more than an input may have is enough to tell that it is too long.
-    rt.stdin().take(MOST_INPUT as u64 + 1).read_to_end(&mut input)?;
+    rt.stdin()
+        .take(MOST_INPUT as u64 + 1)
+        .read_to_end(&mut input)?;
     let report = reports::outline(rt.alloc(), &input)?;
     rt.stdout().write_all(&report)
 }

@@ -1,7 +1,7 @@
 -- From what `open` answers to the report.
-use mathlib.Core.List.{List, [], _∷_, _++_}
+use mathlib.Core.List.{List}
 use mathlib.Core.Path.{_≡_, sym, ap, subst, _∙_}
-use Prim.Native.Nat.{ℕ, _≤_, _<_}
+use Prim.Native.Nat.{ℕ}
 use native.Mathlib.Omega.{arith}
 use lib.ListN.{length, take, drop}
 use Rattle.std.specs.declared.result.Result.{Result}
@@ -13,7 +13,7 @@ use Rattle.refusals.specs.declared.Refusal.{Refusal}
 use Rattle.refusals.specs.Refusals.{number, places}
 use Rattle.record_text.specs.declared.entry.Entry.{Entry}
 use Rattle.record_text.specs.Limits.{most-nodes}
-use Rattle.record_text.specs.Opening.{Opened, Refuses, Reads, misfits, limits, short}
+use Rattle.record_text.specs.Opening.{Opened, Refuses, misfits, limits, short}
 use Rattle.record_text.proofs.Shapes.{keeps-shape}
 use Rattle.reports.specs.Lines.{refused-line}
 use Rattle.reports.specs.Outlines.{Reported, listing}

@@ -1,7 +1,7 @@
 -- The lines of a report, as bytes. `decimal n` is the digits of n, with no zero before the first but in 0 itself.
 use mathlib.Core.Bool.{cond}
 use mathlib.Core.List.{List, [], _∷_, _++_, map}
-use Prim.Native.Nat.{ℕ, suc, _+_, _/_, _%_}
+use Prim.Native.Nat.{ℕ, _+_, _/_, _%_}
 use lib.Chars.{codes}
 use lib.IntN.{ℤ, pos, negsuc, natAbs}
 use lib.ListN.{take, drop}

@@ -1,6 +1,8 @@
 // The lines of a report, each added to what is written so far.
+ghost use lib.ListN.{drop, take};
 ghost use mathlib.Core.List.{_++_};
 ghost use mathlib.Core.Path.{_≡_};
+ghost use Prim.Native.Nat.{_+_};
 ghost use Rattle.refusals.specs.Refusals.{number, places};
 ghost use Rattle.reports.specs.Lines.{count-line, held-text, name-text, node-line, node-lines, place-text, refused-line};
 ghost use Rattle.std.specs.Of.Vec.{vec-items};
@@ -11,15 +13,22 @@ use refusals::Refusal;
 use std::alloc::AllocError;
 use std::alloc::Global;
 
-// The name of a node, as far as the text goes.
+// The `len` bytes after the one at `place`, as far as the text goes.
+fn bytes_after(text: &[u8], place: usize, len: usize) -> &[u8]
+    ensures { λ r. ⌜ now r ≡ take len (drop (place + 1) (now (text .entry))) ⌝ }
+{
+    if place >= text.len() {
+        return &[];
+    }
+    let after = &text[place + 1..];
+    &after[..len.min(after.len())]
+}
+
+// The name of a node.
 fn name_of<'a>(text: &'a [u8], node: &Entry) -> &'a [u8]
     ensures { λ r. ⌜ now r ≡ name-text (now (text .entry)) (now (node .entry)) ⌝ }
 {
-    if node.start >= text.len() {
-        return &[];
-    }
-    let after = &text[node.start + 1..];
-    &after[..node.name_len.min(after.len())]
+    bytes_after(text, node.start, node.name_len)
 }
 
 // Adds what a node holds: a leaf's value, or a hyphen.
@@ -33,17 +42,12 @@ fn push_held(heap: Global, out: &mut Vec<u8>, node: &Entry) -> Result<(), AllocE
 }
 
 // Adds a node's number, place and depth.
-fn push_place(
-    heap: Global,
-    out: &mut Vec<u8>,
-    number: usize,
-    node: &Entry,
-) -> Result<(), AllocError>
-    ensures { λ r. ⌜ made r (λ _. vec-items (now (out .exit)) ≡ vec-items (now (out .entry)) ++ place-text number (now (node .entry))) ⌝ }
+fn push_place(heap: Global, out: &mut Vec<u8>, index: usize, node: &Entry) -> Result<(), AllocError>
+    ensures { λ r. ⌜ made r (λ _. vec-items (now (out .exit)) ≡ vec-items (now (out .entry)) ++ place-text index (now (node .entry))) ⌝ }
 {
     let place = node.start;
     let depth = node.depth;
-    let text = format!(heap, "{number} {place} {depth}")?;
+    let text = format!(heap, "{index} {place} {depth}")?;
     out.extend_from_slice(text.as_bytes())
 }
 
@@ -52,12 +56,12 @@ fn push_node(
     heap: Global,
     out: &mut Vec<u8>,
     text: &[u8],
-    number: usize,
+    index: usize,
     node: &Entry,
 ) -> Result<(), AllocError>
-    ensures { λ r. ⌜ made r (λ _. vec-items (now (out .exit)) ≡ vec-items (now (out .entry)) ++ node-line (now (text .entry)) number (now (node .entry))) ⌝ }
+    ensures { λ r. ⌜ made r (λ _. vec-items (now (out .exit)) ≡ vec-items (now (out .entry)) ++ node-line (now (text .entry)) index (now (node .entry))) ⌝ }
 {
-    push_place(heap, out, number, node)?;
+    push_place(heap, out, index, node)?;
     out.extend_from_slice(b" ")?;
     out.extend_from_slice(name_of(text, node))?;
     out.extend_from_slice(b" ")?;
@@ -74,8 +78,8 @@ pub fn push_nodes(
 ) -> Result<(), AllocError>
     ensures { λ r. ⌜ made r (λ _. vec-items (now (out .exit)) ≡ vec-items (now (out .entry)) ++ node-lines (now (text .entry)) 0 (now (nodes .entry))) ⌝ }
 {
-    for (number, node) in nodes.iter().enumerate() {
-        push_node(heap, out, text, number, node)?;
+    for (index, node) in nodes.iter().enumerate() {
+        push_node(heap, out, text, index, node)?;
     }
     Ok(())
 }

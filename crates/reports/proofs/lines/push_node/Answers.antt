@@ -9,7 +9,7 @@ pub returns : need.returns
 returns c =
     let o = vec-items (c .args .out .now) in
     let t = c .args .text .now in
-    let k = c .args .number in
+    let k = c .args .index in
     let e = c .args .node .now in
     ended (c .extend-from-slice-4 .result) (vec-items (c .push-held .last .out)) _ (o ++ node-line t k e) (10 ∷ []) (c .extend-from-slice-4 .ensures .items)
     (whole-line o (decimal k) (decimal (e .start)) (decimal (e .depth)) (name-text t e) (c .name-of .result .now) (held-text e)
