@@ -1,0 +1,4 @@
+pub mod Pushes
+pub mod Listing
+pub mod Reporting
+pub mod OnlyReport

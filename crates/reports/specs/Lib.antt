@@ -1,0 +1,4 @@
+-- The reports of the programs. To be read from top to bottom: what the contract of `outline` rests on.
+pub mod Lines
+pub mod Outlines
+pub mod Laws

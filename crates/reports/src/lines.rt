@@ -1,0 +1,105 @@
+// The lines of a report, each added to what is written so far.
+ghost use lib.ListN.{drop, take};
+ghost use mathlib.Core.List.{_++_};
+ghost use mathlib.Core.Path.{_≡_};
+ghost use Prim.Native.Nat.{_+_};
+ghost use Rattle.refusals.specs.Refusals.{number, places};
+ghost use Rattle.reports.specs.Lines.{count-line, held-text, name-text, node-line, node-lines, place-text, refused-line};
+ghost use Rattle.std.specs.Of.Vec.{vec-items};
+ghost use Rattle.std.specs.Vec.{made};
+use crate::values::push_value;
+use record_text::Entry;
+use refusals::Refusal;
+use std::alloc::AllocError;
+use std::alloc::Global;
+
+// The `len` bytes after the one at `place`, as far as the text goes.
+fn bytes_after(text: &[u8], place: usize, len: usize) -> &[u8]
+    ensures { λ r. ⌜ now r ≡ take len (drop (place + 1) (now (text .entry))) ⌝ }
+{
+    if place >= text.len() {
+        return &[];
+    }
+    let after = &text[place + 1..];
+    &after[..len.min(after.len())]
+}
+
+// The name of a node.
+fn name_of<'a>(text: &'a [u8], node: &Entry) -> &'a [u8]
+    ensures { λ r. ⌜ now r ≡ name-text (now (text .entry)) (now (node .entry)) ⌝ }
+{
+    bytes_after(text, node.start, node.name_len)
+}
+
+// Adds what a node holds: a leaf's value, or a hyphen.
+fn push_held(heap: Global, out: &mut Vec<u8>, node: &Entry) -> Result<(), AllocError>
+    ensures { λ r. ⌜ made r (λ _. vec-items (now (out .exit)) ≡ vec-items (now (out .entry)) ++ held-text (now (node .entry))) ⌝ }
+{
+    if node.leaf {
+        return push_value(heap, out, node.value);
+    }
+    out.extend_from_slice(b"-")
+}
+
+// Adds a node's number, place and depth.
+fn push_place(heap: Global, out: &mut Vec<u8>, index: usize, node: &Entry) -> Result<(), AllocError>
+    ensures { λ r. ⌜ made r (λ _. vec-items (now (out .exit)) ≡ vec-items (now (out .entry)) ++ place-text index (now (node .entry))) ⌝ }
+{
+    let place = node.start;
+    let depth = node.depth;
+    let text = format!(heap, "{index} {place} {depth}")?;
+    out.extend_from_slice(text.as_bytes())
+}
+
+// Adds the line of a node of the text.
+fn push_node(
+    heap: Global,
+    out: &mut Vec<u8>,
+    text: &[u8],
+    index: usize,
+    node: &Entry,
+) -> Result<(), AllocError>
+    ensures { λ r. ⌜ made r (λ _. vec-items (now (out .exit)) ≡ vec-items (now (out .entry)) ++ node-line (now (text .entry)) index (now (node .entry))) ⌝ }
+{
+    push_place(heap, out, index, node)?;
+    out.extend_from_slice(b" ")?;
+    out.extend_from_slice(name_of(text, node))?;
+    out.extend_from_slice(b" ")?;
+    push_held(heap, out, node)?;
+    out.extend_from_slice(b"\n")
+}
+
+// Adds the lines of all nodes.
+pub fn push_nodes(
+    heap: Global,
+    out: &mut Vec<u8>,
+    text: &[u8],
+    nodes: &[Entry],
+) -> Result<(), AllocError>
+    ensures { λ r. ⌜ made r (λ _. vec-items (now (out .exit)) ≡ vec-items (now (out .entry)) ++ node-lines (now (text .entry)) 0 (now (nodes .entry))) ⌝ }
+{
+    for (index, node) in nodes.iter().enumerate() {
+        push_node(heap, out, text, index, node)?;
+    }
+    Ok(())
+}
+
+// Adds the line that counts the nodes.
+pub fn push_count(heap: Global, out: &mut Vec<u8>, nodes: usize) -> Result<(), AllocError>
+    ensures { λ r. ⌜ made r (λ _. vec-items (now (out .exit)) ≡ vec-items (now (out .entry)) ++ count-line nodes) ⌝ }
+{
+    let line = format!(heap, "{nodes} nodes\n")?;
+    out.extend_from_slice(line.as_bytes())
+}
+
+// Adds the line of a refusal.
+pub fn push_refused(heap: Global, out: &mut Vec<u8>, refusal: Refusal) -> Result<(), AllocError>
+    ensures { λ r. ⌜ made r (λ _. vec-items (now (out .exit)) ≡ vec-items (now (out .entry)) ++ refused-line (number refusal) (places refusal)) ⌝ }
+{
+    let number = refusal.number();
+    let line = match refusal.place() {
+        Some(place) => format!(heap, "refused {number} {place}\n")?,
+        None => format!(heap, "refused {number}\n")?,
+    };
+    out.extend_from_slice(line.as_bytes())
+}
