@@ -2,3 +2,4 @@
 pub mod Limits
 pub mod Nodes
 pub mod Shapes
+pub mod Sums

@@ -1,6 +1,6 @@
 -- What the shape of a list says of each node. (These lemmas stand here and not in proofs/ since the proofs that sources and layers
 -- give for their shape are terms of their code.)
-use mathlib.Core.Bool.{true, _&&_}
+use mathlib.Core.Bool.{true}
 use mathlib.Core.List.{List, [], _∷_}
 use mathlib.Core.Path.{_≡_, refl}
 use Prim.Native.Nat.{ℕ, zero, suc, _≤_, _<_}
