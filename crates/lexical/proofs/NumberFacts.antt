@@ -19,7 +19,7 @@ use Rattle.std.specs.declared.option.Option.the-variants.{Some, None}
 use Rattle.lexical.specs.Kinds.{digit, kind}
 use Rattle.lexical.specs.Words.{all}
 use Rattle.lexical.specs.Rounding.{nearest, hundredths}
-use Rattle.lexical.specs.Numbers.{most-whole, most-fraction, figures, decimal, scaled, Thousandths, plain, parted, Number, positive, negative, valued, first-point, in-thousandths, fraction, together, thousandths, has-minus, signed, with-sign, exact, rounded, number, NumberRule, figure-kind, WorkedNumbers}
+use Rattle.lexical.specs.Numbers.{most-whole, most-fraction, figures, decimal, scaled, Thousandths, plain, parted, Number, positive, negative, valued, first-point, in-thousandths, fraction, together, thousandths, has-minus, signed, with-sign, exact, rounded, number, Means, NumberRule, figure-kind, WorkedNumbers}
 use Rattle.lexical.proofs.KindFacts.{digit-range, digit-kind}
 
 some-one : (x y : ℕ) → _≡_ {A = Maybe ℕ} (Some x) (Some y) → x ≡ y
@@ -216,6 +216,13 @@ number-complete (negative s n t) =
 
 pub number-rule : NumberRule
 number-rule s v = (number-sound s v, number-complete)
+
+means-of : (s : List ℕ) (o : Maybe ℤ) → number s ≡ o → Means s o
+means-of s None e = λ v n. let z : _≡_ {A = ℕ} 0 1 = (let f : _≡_ {A = Maybe ℤ} None (Some v) = sym e ∙ number-complete n in cc) in omega arith
+means-of s (Some v) e = number-sound s v e
+
+pub number-means : (s : List ℕ) (o : Maybe ℤ) → o ≡ number s → Means s o
+number-means s o e = means-of s o (sym e)
 
 -- the kinds of a number's bytes
 

@@ -45,7 +45,12 @@ pub data Number : List ℕ → ℤ → Type 0 where
   positive : (s : List ℕ) (n : ℕ) → Thousandths s n → Number s (hundredths (pos n))
   negative : (s : List ℕ) (n : ℕ) → Thousandths s n → Number (45 ∷ s) (hundredths (negℤ (pos n)))
 
--- The same as a function, for models that have to compute: none where the bytes are no number.
+-- what reading a text as a number answers: its value, or none where it is no number
+abbrev pub Means : List ℕ → Maybe ℤ → Type 0
+Means s (Some v) = Number s v
+Means s None = (v : ℤ) → Number s v → ⊥
+
+-- The same as a function, which other definitions can compute with.
 
 -- the value of one to m digits
 abbrev pub valued : ℕ → List ℕ → Maybe ℕ

@@ -1,4 +1,4 @@
--- Rounding: thousandths to hundredths, to the nearest, a half away from zero. There is no other rounding in the product.
+-- Rounding: thousandths to hundredths, to the nearest, a half away from zero. No other rounding is defined anywhere.
 use mathlib.Core.Path.{_≡_}
 use Prim.Native.Nat.{ℕ, suc, _+_, _*_, _/_, _<_, _≤_}
 use lib.IntN.{ℤ, pos, negsuc, negℤ}

@@ -1,4 +1,4 @@
--- A word is a letter followed by letters, digits or hyphens, 1 to 16 bytes in all. Names and variables are words.
+-- A word is a letter followed by letters, digits or hyphens, 1 to 16 bytes in all. The names of nodes are words.
 use mathlib.Core.Bool.{Bool, true, false, _&&_}
 use mathlib.Core.List.{List, [], _∷_}
 use Prim.Native.Nat.{ℕ}

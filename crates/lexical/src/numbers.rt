@@ -4,7 +4,7 @@ ghost use mathlib.Core.Path.{_≡_};
 ghost use Prim.Native.Nat.{_<_, _≤_, _^_};
 ghost use lib.ListN.{length};
 ghost use Rattle.std.specs.Options.{Cases as BySome};
-ghost use Rattle.lexical.specs.Numbers.{most-fraction, valued, scaled, first-point, fraction, thousandths, has-minus, signed, exact, number};
+ghost use Rattle.lexical.specs.Numbers.{Means, most-fraction, valued, scaled, first-point, fraction, thousandths, has-minus, signed, exact, number};
 use crate::kinds::Kind;
 use crate::kinds::kind_of;
 use crate::rounding::hundredths;
@@ -103,10 +103,18 @@ fn exact(bytes: &[u8]) -> Option<i32>
     Some(signed(size, minus))
 }
 
-// A number in hundredths, rounded to the nearest, a half away from zero; none where the bytes are no number.
-pub fn number(bytes: &[u8]) -> Option<i32>
+// The same by the function that computes it.
+fn rounded(bytes: &[u8]) -> Option<i32>
     ensures { λ r. ⌜ r ≡ number (now (bytes .entry)) ⌝ }
 {
     let thousandths = exact(bytes)?;
     Some(hundredths(thousandths))
+}
+
+// A number in hundredths, rounded to the nearest, a half away from zero; none where the bytes are no number.
+pub fn number(bytes: &[u8]) -> Option<i32>
+    ensures means { λ r. ⌜ Means (now (bytes .entry)) r ⌝ }
+    ensures value { λ r. ⌜ r ≡ number (now (bytes .entry)) ⌝ }
+{
+    rounded(bytes)
 }

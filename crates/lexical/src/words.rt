@@ -1,4 +1,4 @@
-// Words: the names of nodes and variables.
+// Words: the names of nodes.
 ghost use mathlib.Core.Path.{_≡_};
 ghost use Rattle.lexical.specs.Words.{spelled, word};
 use crate::kinds::Kind;
