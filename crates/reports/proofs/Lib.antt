@@ -2,3 +2,4 @@ pub mod Pushes
 pub mod Listing
 pub mod Reporting
 pub mod OnlyReport
+pub mod RecordLines

@@ -2,3 +2,4 @@
 pub mod Lines
 pub mod Outlines
 pub mod Laws
+pub mod Rows

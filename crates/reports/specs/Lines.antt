@@ -6,6 +6,8 @@ use lib.Chars.{codes}
 use lib.IntN.{ℤ, pos, negsuc, natAbs}
 use lib.ListN.{take, drop}
 use Rattle.std.specs.Written.{decimal}
+use Rattle.std.specs.declared.option.Option.{Option as Maybe}
+use Rattle.std.specs.declared.option.Option.the-variants.{Some, None}
 use Rattle.record_text.specs.declared.entry.Entry.{Entry}
 
 -- a line: a word, and further words, each after a single space, up to the line's end (byte 10)
@@ -27,20 +29,28 @@ abbrev pub value-text : ℤ → List ℕ
 value-text z = sign-text z ++ with-point (natAbs z)
 
 -- what a node holds: the value of a leaf, and a hyphen for a branch
-abbrev pub held-text : Entry → List ℕ
-held-text e = cond (e .leaf) (value-text (e .value)) (codes "-")
+abbrev pub held-text : Maybe ℤ → List ℕ
+held-text None = codes "-"
+held-text (Some v) = value-text v
 
--- the name of a node: so many bytes of the text as it is long, after the node's first byte
+-- the front of a node's line: its number, its place and its depth
+abbrev pub front-text : ℕ → ℕ → ℕ → List ℕ
+front-text k p d = decimal k ++ (codes " " ++ (decimal p ++ (codes " " ++ decimal d)))
+
+-- the line of node k: its number, its place, its depth, its name and what it holds
+abbrev pub row : ℕ → ℕ → ℕ → List ℕ → Maybe ℤ → List ℕ
+row k p d w v = line (decimal k) (decimal p ∷ decimal d ∷ w ∷ held-text v ∷ [])
+
+-- the name of a node of a text: so many bytes as it is long, after the node's first byte
 abbrev pub name-text : List ℕ → Entry → List ℕ
 name-text t e = take (e .«name_len») (drop (e .start + 1) t)
 
--- the front of a node's line: its number, its place and its depth
-abbrev pub place-text : ℕ → Entry → List ℕ
-place-text k e = decimal k ++ (codes " " ++ (decimal (e .start) ++ (codes " " ++ decimal (e .depth))))
+abbrev pub entry-value : Entry → Maybe ℤ
+entry-value e = cond (e .leaf) (Some (e .value)) None
 
--- the line of node k of the text t: its number, its place, its depth, its name and what it holds
+-- the line of node k of the text t
 abbrev pub node-line : List ℕ → ℕ → Entry → List ℕ
-node-line t k e = line (decimal k) (decimal (e .start) ∷ decimal (e .depth) ∷ name-text t e ∷ held-text e ∷ [])
+node-line t k e = row k (e .start) (e .depth) (name-text t e) (entry-value e)
 
 -- the lines of nodes, the first of which is node k
 abbrev pub node-lines : List ℕ → ℕ → List Entry → List ℕ

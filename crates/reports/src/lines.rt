@@ -4,7 +4,7 @@ ghost use mathlib.Core.List.{_++_};
 ghost use mathlib.Core.Path.{_≡_};
 ghost use Prim.Native.Nat.{_+_};
 ghost use Rattle.refusals.specs.Refusals.{number, places};
-ghost use Rattle.reports.specs.Lines.{count-line, held-text, name-text, node-line, node-lines, place-text, refused-line};
+ghost use Rattle.reports.specs.Lines.{count-line, entry-value, front-text, held-text, name-text, node-line, node-lines, refused-line, row};
 ghost use Rattle.std.specs.Of.Vec.{vec-items};
 ghost use Rattle.std.specs.Vec.{made};
 use crate::values::push_value;
@@ -12,6 +12,14 @@ use record_text::Entry;
 use refusals::Refusal;
 use std::alloc::AllocError;
 use std::alloc::Global;
+
+// What the line of a node begins with.
+#[derive(Clone, Copy)]
+pub struct Front {
+    pub index: usize,
+    pub place: usize,
+    pub depth: usize,
+}
 
 // The `len` bytes after the one at `place`, as far as the text goes.
 fn bytes_after(text: &[u8], place: usize, len: usize) -> &[u8]
@@ -31,24 +39,49 @@ fn name_of<'a>(text: &'a [u8], node: &Entry) -> &'a [u8]
     bytes_after(text, node.start, node.name_len)
 }
 
-// Adds what a node holds: a leaf's value, or a hyphen.
-fn push_held(heap: Global, out: &mut Vec<u8>, node: &Entry) -> Result<(), AllocError>
-    ensures { λ r. ⌜ made r (λ _. vec-items (now (out .exit)) ≡ vec-items (now (out .entry)) ++ held-text (now (node .entry))) ⌝ }
+fn value_of(node: &Entry) -> Option<i32>
+    ensures { λ r. ⌜ r ≡ entry-value (now (node .entry)) ⌝ }
 {
-    if node.leaf {
-        return push_value(heap, out, node.value);
+    if node.leaf { Some(node.value) } else { None }
+}
+
+// Adds what a node holds: a leaf's value, or a hyphen.
+fn push_held(heap: Global, out: &mut Vec<u8>, value: Option<i32>) -> Result<(), AllocError>
+    ensures { λ r. ⌜ made r (λ _. vec-items (now (out .exit)) ≡ vec-items (now (out .entry)) ++ held-text value) ⌝ }
+{
+    match value {
+        Some(value) => push_value(heap, out, value),
+        None => out.extend_from_slice(b"-"),
     }
-    out.extend_from_slice(b"-")
 }
 
 // Adds a node's number, place and depth.
-fn push_place(heap: Global, out: &mut Vec<u8>, index: usize, node: &Entry) -> Result<(), AllocError>
-    ensures { λ r. ⌜ made r (λ _. vec-items (now (out .exit)) ≡ vec-items (now (out .entry)) ++ place-text index (now (node .entry))) ⌝ }
+fn push_front(heap: Global, out: &mut Vec<u8>, front: Front) -> Result<(), AllocError>
+    ensures { λ r. ⌜ made r (λ _. vec-items (now (out .exit)) ≡ vec-items (now (out .entry)) ++ front-text (front .index) (front .place) (front .depth)) ⌝ }
 {
-    let place = node.start;
-    let depth = node.depth;
+    let index = front.index;
+    let place = front.place;
+    let depth = front.depth;
     let text = format!(heap, "{index} {place} {depth}")?;
     out.extend_from_slice(text.as_bytes())
+}
+
+// Adds the line of a node.
+pub fn push_row(
+    heap: Global,
+    out: &mut Vec<u8>,
+    front: Front,
+    name: &[u8],
+    value: Option<i32>,
+) -> Result<(), AllocError>
+    ensures { λ r. ⌜ made r (λ _. vec-items (now (out .exit)) ≡ vec-items (now (out .entry)) ++ row (front .index) (front .place) (front .depth) (now (name .entry)) value) ⌝ }
+{
+    push_front(heap, out, front)?;
+    out.extend_from_slice(b" ")?;
+    out.extend_from_slice(name)?;
+    out.extend_from_slice(b" ")?;
+    push_held(heap, out, value)?;
+    out.extend_from_slice(b"\n")
 }
 
 // Adds the line of a node of the text.
@@ -61,12 +94,12 @@ fn push_node(
 ) -> Result<(), AllocError>
     ensures { λ r. ⌜ made r (λ _. vec-items (now (out .exit)) ≡ vec-items (now (out .entry)) ++ node-line (now (text .entry)) index (now (node .entry))) ⌝ }
 {
-    push_place(heap, out, index, node)?;
-    out.extend_from_slice(b" ")?;
-    out.extend_from_slice(name_of(text, node))?;
-    out.extend_from_slice(b" ")?;
-    push_held(heap, out, node)?;
-    out.extend_from_slice(b"\n")
+    let front = Front {
+        index,
+        place: node.start,
+        depth: node.depth,
+    };
+    push_row(heap, out, front, name_of(text, node), value_of(node))
 }
 
 // Adds the lines of all nodes.
