@@ -1,4 +1,5 @@
 // Record text: XML-like text read into a list of node entries.
+mod compare;
 mod cutter;
 mod entry;
 mod laws;
@@ -6,6 +7,8 @@ mod names;
 mod nest;
 mod reader;
 mod tags;
+mod tally;
+mod text;
 mod turn;
 
 pub use entry::Entry;
@@ -15,3 +18,4 @@ pub use laws::one_answer;
 pub use laws::one_cut;
 pub use laws::one_list;
 pub use reader::open;
+pub use text::TextRecord;
