@@ -5,9 +5,11 @@ use mathlib.Core.Logic.{_⊎_}
 use mathlib.Core.Path.{_≡_, refl, sym, ap, subst, _∙_}
 use Prim.Native.Nat.{ℕ, _≤_, _<_}
 use native.Mathlib.Omega.{arith}
+use denote.Ref.{now}
 use lib.Dec.{leb}
 use lib.ListN.{length, take, length-map, length-take}
-use Rattle.std.proofs.shelf.Tests.{and-parts, and-from, eq-eqb, leb-true, le-leb}
+use Rattle.std.proofs.shelf.Lists.{take-at}
+use Rattle.std.proofs.shelf.Tests.{and-parts, and-from, eq-eqb, eqb-true, leb-true, le-leb}
 use Rattle.std.specs.Orderings.{Decides}
 use Rattle.std.specs.declared.option.Option.{Option}
 use Rattle.std.specs.declared.option.Option.the-variants.{Some, None}
@@ -18,24 +20,42 @@ use Rattle.refusals.specs.declared.Refusal.the-variants as refusal
 use Rattle.refusals.specs.Refusals.{number, places}
 use Rattle.records.specs.Nodes.{Shape}
 use Rattle.record_text.specs.declared.entry.Entry.{Entry}
+use Rattle.record_text.specs.declared.text.TextRecord.{TextRecord}
 use Rattle.record_text.specs.Reading.{Outcome, accepted, misfit, limit, Answer, Accepted, Misfit, Unclosed, Limit}
 use Rattle.record_text.specs.Opening.{Reads}
 use Rattle.record_text.specs.Pass.{accepts, completed, read}
 use Rattle.record_text.specs.Agree.{Agrees}
 use Rattle.record_text.specs.Passing.{outcome}
 use Rattle.record_text.specs.Texts.{text-node, text-nodes}
-use Rattle.record_text.specs.Laying.{Begins, Differs, Unlaid, misfits, limits, differs, Settled, Tied, Agreed}
+use Rattle.record_text.specs.Laying.{text-of, entries-of, RecordsRead, Begins, Differs, Unlaid, misfits, limits, differs, Laid, refusal-of, Settled, Tied, Agreed}
 use Rattle.record_text.proofs.Read.{read-answers}
 use Rattle.record_text.proofs.Only.{only}
+use Rattle.record_text.proofs.Unique.{one-list}
 use Rattle.record_text.proofs.Opens.{unlike, err-same, counted}
 use Rattle.record_text.proofs.Tells.{keeps-shape}
-use Rattle.record_text.proofs.Agreeing.{begins-same, agrees-begins, begins-agrees}
+use Rattle.record_text.proofs.Agreeing.{entries-are, begins-same, agrees-begins, begins-agrees}
 
 abbrev Refused : List ℕ → List Entry → Refusal → Type 0
 Refused t l e = Unlaid t l (number e) (places e)
 
 accepts-yes : (o : Outcome) (n : ℕ) → o ≡ accepted n → accepts o n ≡ true
 accepts-yes o n e = ap (λ x. accepts x n) e ∙ eq-eqb n n refl
+
+accepts-is : (o : Outcome) (n : ℕ) → accepts o n ≡ true → o ≡ accepted n
+accepts-is (accepted m) n e = ap accepted (eqb-true m n e)
+accepts-is (misfit p) n e = absurd (false≢true e)
+accepts-is (limit p) n e = absurd (false≢true e)
+
+-- what the fields of a record say, by the grammar
+pub records-read : RecordsRead
+records-read x =
+    let t = now (x .text) in
+    let l = now (x .list) in
+    let n = x .count in
+    let a : Accepted t n = subst (Answer t) (accepts-is (read t) n (x .fine)) (read-answers t) in
+    let r : Reads t (a .1) = (a .0, a .2, a .3, a .4) in
+    let e : take n l ≡ a .1 = ap (take n) (sym (x .same) ∙ entries-are t (a .1) l r (omega (arith, a .5, x .room))) ∙ take-at (a .1) _ n (a .5) in
+    subst (Reads t) (sym e) r
 
 refused-by : (t : List ℕ) (l : List Entry) (o : Outcome) (e : Refusal) → Answer t o → _≡_ {A = Result ℕ Refusal} (Err e) (outcome o) → Refused t l e
 refused-by t l (accepted m) e a h = unlike cc
@@ -128,3 +148,9 @@ module _ (t : List ℕ) (l : List Entry) where
             let k : length (x .0) ≡ n = let o : accepted n ≡ accepted (length (x .0)) = sym (counted (read t) n h) ∙ reads-accepted (x .0) (x .1) in cc in
             absurd (x .2 (whole f (x .0) (x .1) k)),
       )
+
+-- where the list begins with the entries, the record holds them afterwards
+pub laid-entries : (t : List ℕ) (l : List Entry) (r : Result (Unit {0}) Refusal) (x y : TextRecord) → Laid t l r x y → Settled t l (refusal-of r) → (es : List Entry) → Reads t es →
+    take (length es) l ≡ es → (text-of y ≡ t) × (entries-of y ≡ es)
+laid-entries t l (Ok u) x y (fs, q, k, a, b) s es r e = (a, b ∙ one-list t fs es (q .0, q .1 .0, q .2) (r .0, r .1 .0, r .2))
+laid-entries t l (Err f) x y h s es r e = let q : _≡_ {A = Option Refusal} (Some f) None = s .0 (es, r, e) in unlike cc

@@ -29,6 +29,10 @@ text-of x = now (x .text)
 abbrev pub entries-of : TextRecord → List Entry
 entries-of x = take (x .count) (now (x .list))
 
+-- every record holds the entries that the grammar derives
+abbrev pub RecordsRead : Type 0
+RecordsRead = (x : TextRecord) → Reads (text-of x) (entries-of x)
+
 -- the list begins with what `open` writes for the text, or with something else
 abbrev pub Begins : List ℕ → List Entry → Type 0
 Begins t l = (es : List Entry) × Reads t es × (take (length es) l ≡ es)

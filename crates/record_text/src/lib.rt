@@ -17,5 +17,8 @@ pub use laws::keeps_shape;
 pub use laws::one_answer;
 pub use laws::one_cut;
 pub use laws::one_list;
+pub use laws::records_read;
 pub use reader::open;
+pub use text::TextIsRecord;
 pub use text::TextRecord;
+pub use text::first_part;

@@ -10,8 +10,12 @@ ghost use Rattle.records.specs.Limits.{most-nodes};
 ghost use Rattle.records.specs.Nodes.{shaped};
 use crate::entry::Entry;
 
+mod first;
 mod ops;
 mod questions;
+
+pub use first::first_part;
+pub use questions::TextIsRecord;
 
 // The text is accepted with `count` nodes, and the list begins with their entries.
 #[derive(Drop)]

@@ -1,6 +1,5 @@
 // The questions of records, put to a text.
 ghost use denote.Ref.{now};
-ghost use lib.Dec.{ltb};
 ghost use lib.ListN.{getD, length};
 ghost use mathlib.Core.Path.{_≡_};
 ghost use Rattle.record_text.specs.Entries.{no-entry};
@@ -39,11 +38,11 @@ fn tells_name(text: &[u8], entry: Entry, name: &[u8]) -> bool
 }
 
 impl<'t, 'n> TextRecord<'t, 'n> {
-    // Whether there is a node n.
-    fn has(&self, n: usize) -> bool
-        ensures { λ r. ⌜ r ≡ ltb n (length (text-nodes (text-of (now (self .entry))) (entries-of (now (self .entry))))) ⌝ }
+    // How many nodes there are.
+    fn len(&self) -> usize
+        ensures { λ r. ⌜ r ≡ length (text-nodes (text-of (now (self .entry))) (entries-of (now (self .entry)))) ⌝ }
     {
-        n < self.count
+        self.count
     }
 
     // The entry of node n, or one that is all zero where there is none.
@@ -65,7 +64,7 @@ pub impl<'t, 'n> Record for TextRecord<'t, 'n> as TextIsRecord {
     ghost level = { λ x. text-level (text-of x) (entries-of x) };
 
     fn count(&self) -> usize {
-        self.count
+        self.len()
     }
 
     fn depth(&self, n: usize) -> usize {
@@ -81,6 +80,6 @@ pub impl<'t, 'n> Record for TextRecord<'t, 'n> as TextIsRecord {
     }
 
     fn is_named(&self, n: usize, name: &[u8]) -> bool {
-        self.has(n) && tells_name(self.text, self.entry(n), name)
+        n < self.len() && tells_name(self.text, self.entry(n), name)
     }
 }
