@@ -1,6 +1,6 @@
--- The entries that a pass writes are those of the grammar.
+-- The nodes that a pass completes, in the order in which their elements end, and their entries: they are those of the grammar.
 use mathlib.Core.Bool.{true}
-use mathlib.Core.List.{List, [], _∷_, _++_, append-assoc}
+use mathlib.Core.List.{List, [], _∷_, _++_, append-assoc, append-nil}
 use mathlib.Core.Option.{some}
 use mathlib.Core.Path.{_≡_, refl, sym, ap, _∙_}
 use Prim.Native.Nat.{ℕ, suc, _+_, _≤_}
@@ -14,24 +14,26 @@ use Rattle.record_text.specs.declared.entry.Entry.{Entry}
 use Rattle.record_text.specs.Entries.{branch, leaf}
 use Rattle.record_text.specs.Grammar.{Item, gap, num, bytes, text, size, opening, closing, alone, Blanks, no-blank, one-more, Content, nothing, blank, element, Element, hollow, around, holding}
 use Rattle.record_text.specs.Machine.{Open, Held, blanks, elements, value, Shape, shape, opened, Tag, move-num, move, runs}
-use Rattle.record_text.specs.Pass.{Done, entry-of, done-by-tag, done-by, done-after, done, written}
+use Rattle.record_text.specs.Pass.{start, Done, entry-of, done-by-tag, done-by, done-after, done, written}
 use Rattle.record_text.proofs.Sound.{after-some}
 use Rattle.record_text.proofs.Read.{some-same}
 use Rattle.record_text.proofs.Complete.{Free, size-++, content-run, opening-tag, closing-tag, alone-tag, open-move, close-move, alone-move, blanks-run}
 
--- what an item, and what items write
-abbrev put : ℕ → Shape → Item → List Entry → List Entry
-put p s i l = written (done-by p s i) l
+-- the entry of a branch that has closed
+abbrev pub outer : ℕ → ℕ → List Item → List ℕ → Entry
+outer p d is w = branch p (p + size (opening w ∷ (is ++ closing w ∷ []))) (length w) d
 
-abbrev put-tag : ℕ → ℕ → Shape → Tag → List Entry → List Entry
-put-tag p q s x l = written (done-by-tag p q s x) l
+-- the nodes of a derivation by the numbers from n on, in the order in which they end
+abbrev mutual
+  pub ending : {p d : ℕ} {is : List Item} {es : List Entry} → Content p d is es → ℕ → List Done
+  ending nothing n = []
+  ending (blank c b k) n = ending c n
+  ending (element {es = es} c e) n = ending c n ++ ending-of e (n + length es)
 
-abbrev fills : ℕ → Shape → List Item → List Entry → List Entry
-fills p s is l = written (done p s is) l
-
-written-++ : (xs ys : List Done) (l : List Entry) → written (xs ++ ys) l ≡ written ys (written xs l)
-written-++ [] ys l = refl
-written-++ (x ∷ xs) ys l = written-++ xs ys (set l (x .0) (x .1))
+  pub ending-of : {p d : ℕ} {js : List Item} {fs : List Entry} → Element p d js fs → ℕ → List Done
+  ending-of (hollow {p} {d} w k) n = (n, branch p (p + size (alone w ∷ [])) (length w) d) ∷ []
+  ending-of (around {p} {d} {is} w k c) n = ending c (n + 1) ++ (n, outer p d is w) ∷ []
+  ending-of (holding {p} {d} {bs} {cs} w k P ds v e C) n = (n, leaf p (p + size (opening w ∷ (bs ++ num ds ∷ (cs ++ closing w ∷ [])))) (length w) d v) ∷ []
 
 done-∷ : (p : ℕ) (s s′ : Shape) (i : Item) (is : List Item) → move p s i ≡ some s′ → done p s (i ∷ is) ≡ done-by p s i ++ done (p + length (bytes i)) s′ is
 done-∷ p s s′ i is e = ap (λ o. done-after o (λ t. done-by p s i ++ done (p + length (bytes i)) t is)) e
@@ -50,29 +52,19 @@ done-++ p s s′ (i ∷ is) js e =
     ∙ (ap (λ n. (done-by p s i ++ done k (r .0) is) ++ done n s′ js) q
     ∙ ap (λ d. d ++ done (p + size (i ∷ is)) s′ js) (sym (done-∷ p s (r .0) i is (r .1))))))
 
-fills-∷ : (p : ℕ) (s s′ : Shape) (i : Item) (is : List Item) (l : List Entry) → move p s i ≡ some s′ → fills p s (i ∷ is) l ≡ fills (p + length (bytes i)) s′ is (put p s i l)
-fills-∷ p s s′ i is l e = ap (λ d. written d l) (done-∷ p s s′ i is e) ∙ written-++ (done-by p s i) (done (p + length (bytes i)) s′ is) l
+blanks-done : {bs : List Item} → Blanks bs → (p : ℕ) (s : Shape) → done p s bs ≡ []
+blanks-done no-blank p s = refl
+blanks-done (one-more {is} r b k) p s = done-++ p s s is (gap b ∷ []) (blanks-run r p s) ∙ ap (λ d. d ++ []) (blanks-done r p s)
 
-fills-++ : (p : ℕ) (s s′ : Shape) (is js : List Item) (l : List Entry) → runs p s is ≡ some s′ → fills p s (is ++ js) l ≡ fills (p + size is) s′ js (fills p s is l)
-fills-++ p s s′ is js l e = ap (λ d. written d l) (done-++ p s s′ is js e) ∙ written-++ (done p s is) (done (p + size is) s′ js) l
+module _ (p n : ℕ) (up : List Open) (h : Held) (w : List ℕ) (k : word w ≡ true) where
+  open-done : done-by p (shape n up h) (opening w) ≡ []
+  open-done = ap (done-by-tag p (p + length (bytes (opening w))) (shape n up h)) (opening-tag w k)
 
-blanks-fill : {bs : List Item} → Blanks bs → (p : ℕ) (s : Shape) (l : List Entry) → fills p s bs l ≡ l
-blanks-fill no-blank p s l = refl
-blanks-fill (one-more {is} r b k) p s l = fills-++ p s s is (gap b ∷ []) l (blanks-run r p s) ∙ blanks-fill r p s l
+  alone-done : done-by p (shape n up h) (alone w) ≡ (n, branch p (p + length (bytes (alone w))) (length w) (length up)) ∷ []
+  alone-done = ap (done-by-tag p (p + length (bytes (alone w))) (shape n up h)) (alone-tag w k)
 
--- the list with es written after A
-abbrev over-write : List Entry → List Entry → List Entry → List Entry
-over-write A es B = A ++ (es ++ drop (length es) B)
-
-module _ (p n : ℕ) (up : List Open) (h : Held) (w : List ℕ) (k : word w ≡ true) (l : List Entry) where
-  open-put : put p (shape n up h) (opening w) l ≡ l
-  open-put = ap (λ t. put-tag p (p + length (bytes (opening w))) (shape n up h) t l) (opening-tag w k)
-
-  alone-put : put p (shape n up h) (alone w) l ≡ set l n (branch p (p + length (bytes (alone w))) (length w) (length up))
-  alone-put = ap (λ t. put-tag p (p + length (bytes (alone w))) (shape n up h) t l) (alone-tag w k)
-
-  close-put : (q m : ℕ) → put p (shape n (opened w q m ∷ up) h) (closing w) l ≡ set l m (entry-of q h (p + length (bytes (closing w))) (length w) (length up))
-  close-put q m = ap (λ t. put-tag p (p + length (bytes (closing w))) (shape n (opened w q m ∷ up) h) t l) (closing-tag w k)
+  close-done : (q m : ℕ) → done-by p (shape n (opened w q m ∷ up) h) (closing w) ≡ (m, entry-of q h (p + length (bytes (closing w))) (length w) (length up)) ∷ []
+  close-done q m = ap (done-by-tag p (p + length (bytes (closing w))) (shape n (opened w q m ∷ up) h)) (closing-tag w k)
 
 size-one : (i : Item) → length (bytes i) ≡ size (i ∷ [])
 size-one i = omega (arith, length-append (bytes i) [])
@@ -88,9 +80,6 @@ pub size-holding : (w : List ℕ) (bs : List Item) (ds : List ℕ) (cs : List It
 size-holding w bs ds cs =
     omega (arith, size-cons (opening w) (bs ++ num ds ∷ (cs ++ closing w ∷ [])), size-++ bs (num ds ∷ (cs ++ closing w ∷ [])), size-cons (num ds) (cs ++ closing w ∷ []), size-++ cs (closing w ∷ []), size-one (closing w))
 
-replaced : (A : List Entry) (x : Entry) (R : List Entry) (n : ℕ) → length A ≡ n → (e e′ : Entry) → e ≡ e′ → set (A ++ x ∷ R) n e ≡ A ++ e′ ∷ R
-replaced A x R n a e e′ q = set-at A x R e n a ∙ ap (λ y. A ++ y ∷ R) q
-
 branch-at : (p n q q′ d d′ : ℕ) → q ≡ q′ → d ≡ d′ → branch p q n d ≡ branch p q′ n d′
 branch-at p n q q′ d d′ e f = ap (λ x. branch p x n d) e ∙ ap (λ x. branch p q′ n x) f
 
@@ -102,70 +91,107 @@ entry-free o blanks q n d f = refl
 entry-free o elements q n d f = refl
 entry-free o (value v) q n d f = absurd f
 
-mutual
-  pub content-fill : {p d : ℕ} {is : List Item} {es : List Entry} → Content p d is es → (n : ℕ) (up : List Open) (h : Held) → Free h → length up ≡ d →
-      (A B : List Entry) → length A ≡ n → length es ≤ length B → fills p (shape n up h) is (A ++ B) ≡ over-write A es B
-  content-fill nothing n up h f u A B a b = refl
-  content-fill (blank {p} {d} {is} {es} c b′ k) n up h f u A B a b =
-      let r = content-run c n up h f in
-      fills-++ p (shape n up h) _ is (gap b′ ∷ []) (A ++ B) (r .2) ∙ content-fill c n up h f u A B a b
-  content-fill (element {p} {d} {is} {es} {js} {fs} c e) n up h f u A B a b =
-      let r = content-run c n up h f in
-      let l : length (es ++ fs) ≡ length es + length fs = length-append es fs in
-      let a′ : length (A ++ es) ≡ n + length es = omega (arith, length-append A es) in
-      let b′ : length fs ≤ length (drop (length es) B) = omega (arith, length-drop (length es) B) in
-      fills-++ p (shape n up h) _ is js (A ++ B) (r .2)
-      ∙ (ap (λ x. fills (p + size is) (shape (n + length es) up (r .0)) js x) (content-fill c n up h f u A B a (omega arith) ∙ sym (append-assoc A es (drop (length es) B)))
-      ∙ (element-fill e (n + length es) up (r .0) (r .1) u (A ++ es) (drop (length es) B) a′ b′
-      ∙ (ap (λ x. (A ++ es) ++ (fs ++ x)) (drop-drop (length fs) (length es) B ∙ ap (λ m. drop m B) (sym l))
-      ∙ simp append-assoc)))
+one-done : (n : ℕ) (e e′ : Entry) → e ≡ e′ → _≡_ {A = List Done} ((n, e) ∷ []) ((n, e′) ∷ [])
+one-done n e e′ q = ap (λ x. (n, x) ∷ []) q
 
-  element-fill : {p d : ℕ} {js : List Item} {fs : List Entry} → Element p d js fs → (n : ℕ) (up : List Open) (h : Held) → Free h → length up ≡ d →
-      (A B : List Entry) → length A ≡ n → length fs ≤ length B → fills p (shape n up h) js (A ++ B) ≡ over-write A fs B
-  element-fill (hollow w k) n up h f u A [] a b = absurd (omega arith)
-  element-fill (hollow {p} {d} w k) n up h f u A (x ∷ B) a b =
+-- a pass over what the grammar derives completes its nodes
+mutual
+  pub content-done : {p d : ℕ} {is : List Item} {es : List Entry} (c : Content p d is es) → (n : ℕ) (up : List Open) (h : Held) → Free h → length up ≡ d →
+      done p (shape n up h) is ≡ ending c n
+  content-done nothing n up h f u = refl
+  content-done (blank {p} {d} {is} {es} c b k) n up h f u =
+      let r = content-run c n up h f in
+      done-++ p (shape n up h) _ is (gap b ∷ []) (r .2) ∙ (append-nil _ ∙ content-done c n up h f u)
+  content-done (element {p} {d} {is} {es} {js} {fs} c e) n up h f u =
+      let r = content-run c n up h f in
+      done-++ p (shape n up h) _ is js (r .2)
+      ∙ (ap (λ x. x ++ done (p + size is) (shape (n + length es) up (r .0)) js) (content-done c n up h f u)
+      ∙ ap (λ x. ending c n ++ x) (element-done e (n + length es) up (r .0) (r .1) u))
+
+  element-done : {p d : ℕ} {js : List Item} {fs : List Entry} (e : Element p d js fs) → (n : ℕ) (up : List Open) (h : Held) → Free h → length up ≡ d →
+      done p (shape n up h) js ≡ ending-of e n
+  element-done (hollow {p} {d} w k) n up h f u =
       let z : length (bytes (alone w)) ≡ size (alone w ∷ []) = size-one (alone w) in
-      fills-∷ p (shape n up h) _ (alone w) [] (A ++ x ∷ B) (alone-move p n up h w k f)
-      ∙ (alone-put p n up h w k (A ++ x ∷ B)
-      ∙ replaced A x B n a _ _ (branch-at p (length w) (p + length (bytes (alone w))) (p + size (alone w ∷ [])) (length up) d (omega arith) u))
-  element-fill (around w k c) n up h f u A [] a b = absurd (omega arith)
-  element-fill (around {p} {d} {is} {es} w k c) n up h f u A (x ∷ B) a b =
+      done-∷ p (shape n up h) _ (alone w) [] (alone-move p n up h w k f)
+      ∙ (append-nil _
+      ∙ (alone-done p n up h w k
+      ∙ one-done n _ _ (branch-at p (length w) (p + length (bytes (alone w))) (p + size (alone w ∷ [])) (length up) d (omega arith) u)))
+  element-done (around {p} {d} {is} {es} w k c) n up h f u =
       let q : ℕ = p + length (bytes (opening w)) in
       let o : Open = opened w p n in
-      let l : List Entry = A ++ x ∷ B in
       let r = content-run c (n + 1) (o ∷ up) blanks tt in
       let m : ℕ = n + 1 + length es in
-      let a′ : length (A ++ x ∷ []) ≡ n + 1 = omega (arith, length-push A x) in
-      let R : List Entry = es ++ drop (length es) B in
       let z = size-around w is in
-      fills-∷ p (shape n up h) (shape (n + 1) (o ∷ up) blanks) (opening w) (is ++ closing w ∷ []) l (open-move p n up h w k f)
-      ∙ (ap (λ y. fills q (shape (n + 1) (o ∷ up) blanks) (is ++ closing w ∷ []) y) (open-put p n up h w k l)
-      ∙ (fills-++ q (shape (n + 1) (o ∷ up) blanks) (shape m (o ∷ up) (r .0)) is (closing w ∷ []) l (r .2)
-      ∙ (ap (λ y. fills (q + size is) (shape m (o ∷ up) (r .0)) (closing w ∷ []) y)
-      (ap (λ y. fills q (shape (n + 1) (o ∷ up) blanks) is y) (sym (append-assoc A (x ∷ []) B))
-      ∙ (content-fill c (n + 1) (o ∷ up) blanks tt (ap suc u) (A ++ x ∷ []) B a′ (omega arith) ∙ append-assoc A (x ∷ []) R))
-      ∙ (fills-∷ (q + size is) (shape m (o ∷ up) (r .0)) (shape m up elements) (closing w) [] (A ++ x ∷ R) (close-move (q + size is) m up (r .0) w k p n)
-      ∙ (close-put (q + size is) m up (r .0) w k (A ++ x ∷ R) p n
-      ∙ replaced A x R n a _ _ (entry-free o (r .0) _ _ _ (r .1)
-      ∙ branch-at p (length w) (q + size is + length (bytes (closing w))) (p + size (opening w ∷ (is ++ closing w ∷ []))) (length up) d (omega arith) u))))))
-  element-fill (holding w k P ds v e C) n up h f u A [] a b = absurd (omega arith)
-  element-fill (holding {p} {d} {bs} {cs} w k P ds v e C) n up h f u A (x ∷ B) a b =
+      let last : List Done = done (q + size is) (shape m (o ∷ up) (r .0)) (closing w ∷ []) in
+      let closes : last ≡ (n, outer p d is w) ∷ [] =
+      done-∷ (q + size is) (shape m (o ∷ up) (r .0)) (shape m up elements) (closing w) [] (close-move (q + size is) m up (r .0) w k p n)
+      ∙ (append-nil _
+      ∙ (close-done (q + size is) m up (r .0) w k p n
+      ∙ one-done n _ _ (entry-free o (r .0) _ _ _ (r .1)
+      ∙ branch-at p (length w) (q + size is + length (bytes (closing w))) (p + size (opening w ∷ (is ++ closing w ∷ []))) (length up) d (omega arith) u))) in
+      done-∷ p (shape n up h) (shape (n + 1) (o ∷ up) blanks) (opening w) (is ++ closing w ∷ []) (open-move p n up h w k f)
+      ∙ (ap (λ x. x ++ done q (shape (n + 1) (o ∷ up) blanks) (is ++ closing w ∷ [])) (open-done p n up h w k)
+      ∙ (done-++ q (shape (n + 1) (o ∷ up) blanks) (shape m (o ∷ up) (r .0)) is (closing w ∷ []) (r .2)
+      ∙ (ap (λ x. x ++ last) (content-done c (n + 1) (o ∷ up) blanks tt (ap suc u)) ∙ ap (λ x. ending c (n + 1) ++ x) closes)))
+  element-done (holding {p} {d} {bs} {cs} w k P ds v e C) n up h f u =
       let q : ℕ = p + length (bytes (opening w)) in
       let o : Open = opened w p n in
-      let l : List Entry = A ++ x ∷ B in
       let s : Shape = shape (n + 1) (o ∷ up) blanks in
       let s′ : Shape = shape (n + 1) (o ∷ up) (value v) in
       let q₁ : ℕ = q + size bs in
       let q₂ : ℕ = q₁ + length ds in
       let q₃ : ℕ = q₂ + size cs in
       let z = size-holding w bs ds cs in
-      fills-∷ p (shape n up h) s (opening w) (bs ++ num ds ∷ (cs ++ closing w ∷ [])) l (open-move p n up h w k f)
-      ∙ (ap (λ y. fills q s (bs ++ num ds ∷ (cs ++ closing w ∷ [])) y) (open-put p n up h w k l)
-      ∙ (fills-++ q s s bs (num ds ∷ (cs ++ closing w ∷ [])) l (blanks-run P q s)
-      ∙ (ap (λ y. fills q₁ s (num ds ∷ (cs ++ closing w ∷ [])) y) (blanks-fill P q s l)
-      ∙ (fills-∷ q₁ s s′ (num ds) (cs ++ closing w ∷ []) l (ap (move-num s blanks) (number-rule ds v .1 e))
-      ∙ (fills-++ q₂ s′ s′ cs (closing w ∷ []) l (blanks-run C q₂ s′)
-      ∙ (ap (λ y. fills q₃ s′ (closing w ∷ []) y) (blanks-fill C q₂ s′ l)
-      ∙ (fills-∷ q₃ s′ (shape (n + 1) up elements) (closing w) [] l (close-move q₃ (n + 1) up (value v) w k p n)
-      ∙ (close-put q₃ (n + 1) up (value v) w k l p n
-      ∙ replaced A x B n a _ _ (leaf-at p (length w) v (q₃ + length (bytes (closing w))) (p + size (opening w ∷ (bs ++ num ds ∷ (cs ++ closing w ∷ [])))) (length up) d (omega arith) u)))))))))
+      done-∷ p (shape n up h) s (opening w) (bs ++ num ds ∷ (cs ++ closing w ∷ [])) (open-move p n up h w k f)
+      ∙ (ap (λ x. x ++ done q s (bs ++ num ds ∷ (cs ++ closing w ∷ []))) (open-done p n up h w k)
+      ∙ (done-++ q s s bs (num ds ∷ (cs ++ closing w ∷ [])) (blanks-run P q s)
+      ∙ (ap (λ x. x ++ done q₁ s (num ds ∷ (cs ++ closing w ∷ []))) (blanks-done P q s)
+      ∙ (done-∷ q₁ s s′ (num ds) (cs ++ closing w ∷ []) (ap (move-num s blanks) (number-rule ds v .1 e))
+      ∙ (done-++ q₂ s′ s′ cs (closing w ∷ []) (blanks-run C q₂ s′)
+      ∙ (ap (λ x. x ++ done q₃ s′ (closing w ∷ [])) (blanks-done C q₂ s′)
+      ∙ (done-∷ q₃ s′ (shape (n + 1) up elements) (closing w) [] (close-move q₃ (n + 1) up (value v) w k p n)
+      ∙ (append-nil _
+      ∙ (close-done q₃ (n + 1) up (value v) w k p n
+      ∙ one-done n _ _ (leaf-at p (length w) v (q₃ + length (bytes (closing w))) (p + size (opening w ∷ (bs ++ num ds ∷ (cs ++ closing w ∷ [])))) (length up) d (omega arith) u))))))))))
+
+-- written into a list: the entries of the grammar after A
+written-++ : (xs ys : List Done) (l : List Entry) → written (xs ++ ys) l ≡ written ys (written xs l)
+written-++ [] ys l = refl
+written-++ (x ∷ xs) ys l = written-++ xs ys (set l (x .0) (x .1))
+
+abbrev over-write : List Entry → List Entry → List Entry → List Entry
+over-write A es B = A ++ (es ++ drop (length es) B)
+
+-- the first entry after A
+front-fill : (A : List Entry) (e : Entry) (B : List Entry) (n : ℕ) → length A ≡ n → 1 ≤ length B → set (A ++ B) n e ≡ A ++ e ∷ drop 1 B
+front-fill A e [] n a b = absurd (omega arith)
+front-fill A e (x ∷ B) n a b = set-at A x B e n a
+
+mutual
+  ending-fill : {p d : ℕ} {is : List Item} {es : List Entry} (c : Content p d is es) → (n : ℕ) (A B : List Entry) → length A ≡ n → length es ≤ length B →
+      written (ending c n) (A ++ B) ≡ over-write A es B
+  ending-fill nothing n A B a b = refl
+  ending-fill (blank c x k) n A B a b = ending-fill c n A B a b
+  ending-fill (element {es = es} {fs = fs} c e) n A B a b =
+      let l : length (es ++ fs) ≡ length es + length fs = length-append es fs in
+      let a′ : length (A ++ es) ≡ n + length es = omega (arith, length-append A es) in
+      let b′ : length fs ≤ length (drop (length es) B) = omega (arith, length-drop (length es) B) in
+      written-++ (ending c n) (ending-of e (n + length es)) (A ++ B)
+      ∙ (ap (written (ending-of e (n + length es))) (ending-fill c n A B a (omega arith) ∙ sym (append-assoc A es (drop (length es) B)))
+      ∙ (ending-of-fill e (n + length es) (A ++ es) (drop (length es) B) a′ b′
+      ∙ (ap (λ x. (A ++ es) ++ (fs ++ x)) (drop-drop (length fs) (length es) B ∙ ap (λ m. drop m B) (sym l)) ∙ simp append-assoc)))
+
+  ending-of-fill : {p d : ℕ} {js : List Item} {fs : List Entry} (e : Element p d js fs) → (n : ℕ) (A B : List Entry) → length A ≡ n → length fs ≤ length B →
+      written (ending-of e n) (A ++ B) ≡ over-write A fs B
+  ending-of-fill (hollow w k) n A B a b = front-fill A _ B n a b
+  ending-of-fill (around w k c) n A [] a b = absurd (omega arith)
+  ending-of-fill (around {p} {d} {is} {es} w k c) n A (x ∷ B) a b =
+      let y : Entry = outer p d is w in
+      let a′ : length (A ++ x ∷ []) ≡ n + 1 = omega (arith, length-push A x) in
+      written-++ (ending c (n + 1)) ((n, y) ∷ []) (A ++ x ∷ B)
+      ∙ (ap (λ l. set l n y) (ap (written (ending c (n + 1))) (sym (append-assoc A (x ∷ []) B)) ∙ (ending-fill c (n + 1) (A ++ x ∷ []) B a′ (omega arith) ∙ append-assoc A (x ∷ []) (es ++ drop (length es) B)))
+      ∙ set-at A x (es ++ drop (length es) B) y n a)
+  ending-of-fill (holding w k P ds v e C) n A B a b = front-fill A _ B n a b
+
+pub content-fill : {is : List Item} {es : List Entry} → Content 0 0 is es → (l : List Entry) → length es ≤ length l → written (done 0 start is) l ≡ es ++ drop (length es) l
+content-fill c l b = ap (λ d. written d l) (content-done c 0 [] elements tt refl) ∙ ending-fill c 0 [] l refl b

@@ -8,6 +8,7 @@ pub mod Only
 pub mod Fill
 pub mod Unique
 pub mod Shapes
+pub mod Tells
 pub mod TagForms
 pub mod Steps
 pub mod Keys
@@ -15,3 +16,6 @@ pub mod Nests
 pub mod Onwards
 pub mod Endings
 pub mod Opens
+pub mod Agreeing
+pub mod Lays
+pub mod TextNodes

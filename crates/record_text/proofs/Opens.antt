@@ -6,13 +6,13 @@ use Prim.Native.Nat.{ℕ, _≤_, _<_}
 use native.Mathlib.Omega.{arith}
 use lib.ListN.{length, drop}
 use Rattle.std.proofs.shelf.Tests.{le-leb, lt-leb}
+use Rattle.std.specs.Results.{ErrBy}
 use Rattle.std.specs.declared.result.Result.{Result}
 use Rattle.std.specs.declared.result.Result.the-variants.{Ok, Err}
 use Rattle.refusals.specs.declared.Refusal.{Refusal}
 use Rattle.refusals.specs.declared.Refusal.the-variants as refusal
 use Rattle.refusals.specs.Refusals.{number, places}
 use Rattle.record_text.specs.declared.entry.Entry.{Entry}
-use Rattle.record_text.specs.Machine.{elements}
 use Rattle.record_text.specs.Reading.{Outcome, accepted, misfit, limit, Answer, Accepted}
 use Rattle.record_text.specs.Pass.{start, read, done, written, entries}
 use Rattle.record_text.specs.Opening.{Refuses, misfits, limits, short, Opened, answered}
@@ -21,11 +21,16 @@ use Rattle.record_text.proofs.Read.{read-answers}
 use Rattle.record_text.proofs.Only.{only, items-are}
 use Rattle.record_text.proofs.Fill.{content-fill}
 
-unlike : {X : Type 0} → _≡_ {A = ℕ} 0 1 → X
+pub unlike : {X : Type 0} → _≡_ {A = ℕ} 0 1 → X
 unlike e = absurd (omega arith)
 
-err-same : (e f : Refusal) → _≡_ {A = Result ℕ Refusal} (Err e) (Err f) → e ≡ f
+pub err-same : (e f : Refusal) → _≡_ {A = Result ℕ Refusal} (Err e) (Err f) → e ≡ f
 err-same e f h = cc
+
+-- `?` hands the refusal on as it is
+pub err-from : (r : Result ℕ Refusal) (e : Refusal) → ErrBy r (λ f. f ≡ e) → r ≡ Err e
+err-from (Ok n) e h = absurd h
+err-from (Err f) e h = ap Err h
 
 abbrev Refused : List ℕ → ℕ → Refusal → Type 0
 Refused t m e = Refuses t m (number e) (places e)
@@ -71,7 +76,7 @@ module _ (t : List ℕ) (l : List Entry) where
         let a = accepts in
         let c = a .3 in
         let b : length (a .1) ≤ length l = omega (arith, a .5) in
-        let q : entries t l ≡ a .1 ++ drop (length (a .1)) l = ap (λ is. written (done 0 start is) l) (items-are t (a .0) (a .2)) ∙ content-fill c 0 [] elements tt refl [] l refl b in
+        let q : entries t l ≡ a .1 ++ drop (length (a .1)) l = ap (λ is. written (done 0 start is) l) (items-are t (a .0) (a .2)) ∙ content-fill c l b in
         (a .1, (a .0, a .2, c, a .4), a .5, k, e ∙ (q ∙ ap (λ m. a .1 ++ drop m l) (a .5)))
 
     pub only-filled : n ≤ length l → (o : Outcome) → Answer t o → _≡_ {A = Result ℕ Refusal} (Ok n) (answered (length l) o)

@@ -1,4 +1,4 @@
--- The entries of an accepted text have the shape of a record.
+-- The nodes of an accepted text have the shape of a record.
 use mathlib.Core.Bool.{Bool, true, false, _||_, _&&_, false≢true}
 use mathlib.Core.List.{List, [], _∷_, _++_, append-assoc, append-nil}
 use mathlib.Core.Option.{some}
@@ -11,15 +11,25 @@ use Rattle.std.proofs.shelf.Tests.{leb-false}
 use Rattle.record_text.specs.declared.entry.Entry.{Entry}
 use Rattle.lexical.proofs.NumberFacts.{number-rule}
 use Rattle.records.specs.Limits.{most-nodes, most-levels}
+use Rattle.records.specs.Nodes.{next-depth}
 use Rattle.record_text.specs.Grammar.{Item, gap, tag, num, bytes, text, size, opening, closing, alone, Blanks, no-blank, one-more, Content, nothing, blank, element, Element, hollow, around, holding}
 use Rattle.record_text.specs.Reading.{Outcome, accepted}
-use Rattle.record_text.specs.Shape.{From, Shallow}
-use Rattle.record_text.specs.Laws.{KeepsShape}
+use Rattle.record_text.specs.Opening.{Reads}
+use Rattle.record_text.specs.Texts.{value-of}
 use Rattle.record_text.specs.Machine.{Open, Held, blanks, elements, value, Shape, shape, opened, Tag, opens, whole, tagOf, move, move-num}
 use Rattle.record_text.proofs.Complete.{Free, opening-tag, alone-tag, open-move, close-move, alone-move, size-++}
 use Rattle.record_text.proofs.Read.{starts, over, decide, check, start}
 use Rattle.record_text.proofs.Only.{only, items-are}
 use Rattle.record_text.proofs.Fill.{size-holding}
+
+-- the first depth is at most m, and each further one at most what may follow the node before it
+abbrev pub From : ℕ → List Entry → Type 0
+From m [] = Unit {0}
+From m (e ∷ es) = (e .depth ≤ m) × From (next-depth (value-of e) (e .depth)) es
+
+abbrev pub Shallow : List Entry → Type 0
+Shallow [] = Unit {0}
+Shallow (e ∷ es) = (e .depth < most-levels) × Shallow es
 
 mutual
   content-from : {p d : ℕ} {is : List Item} {es : List Entry} → Content p d is es → (m : ℕ) → d ≤ m → (fs : List Entry) → ((k : ℕ) → d ≤ k → From k fs) → From m (es ++ fs)
@@ -29,8 +39,8 @@ mutual
       subst (From m) (sym (append-assoc es gs fs)) (content-from c m h (gs ++ fs) (λ k l. element-from e k l fs f))
 
   element-from : {p d : ℕ} {is : List Item} {es : List Entry} → Element p d is es → (m : ℕ) → d ≤ m → (fs : List Entry) → ((k : ℕ) → d ≤ k → From k fs) → From m (es ++ fs)
-  element-from (hollow {d = d} w k) m h fs f = (h, f (suc d) (omega arith))
-  element-from (around {d = d} w k c) m h fs f = (h, content-from c (suc d) (omega arith) fs (λ n l. f n (omega arith)))
+  element-from (hollow {d = d} w k) m h fs f = (h, f (d + 1) (omega arith))
+  element-from (around {d = d} w k c) m h fs f = (h, content-from c (d + 1) (omega arith) fs (λ n l. f n (omega arith)))
   element-from (holding {d = d} w k B ds v e C) m h fs f = (h, f d (omega arith))
 
 -- the limits, where the check accepts
@@ -148,8 +158,8 @@ mutual
         goes = at-check (q₃ + length (bytes (closing w))) _ (n + 1) (n + 1) up elements js k (omega (arith, size-holding w bs ds cs)) refl (z .1);
       }
 
-pub keeps-shape : KeepsShape
-keeps-shape t es (is, io, c, w) =
+pub depths : (t : List ℕ) (es : List Entry) → Reads t es → From 0 es × Shallow es × (length es ≤ most-nodes)
+depths t es (is, io, c, w) =
     let n = length es in
     let e : check 0 start is ≡ accepted n = sym (ap (check 0 start) (items-are t is io)) ∙ only t (accepted n) (is, es, io, c, w, refl) in
     let r = content-limits c 0 [] elements tt refl (omega arith) [] n (subst (λ l. check 0 start l ≡ accepted n) (sym (append-nil is)) e) in

@@ -28,8 +28,8 @@ same-entries is es fs c e =
     let q = some-same _ _ (sym (content-run c 0 [] elements tt .2) ∙ content-run e 0 [] elements tt .2) in
     let n : length fs ≡ length es = omega (arith, ap (λ z. z .nodes) q) in
     let l = length-append es fs in
-    let a = content-fill c 0 [] elements tt refl [] (es ++ fs) refl (omega arith) in
-    let b = content-fill e 0 [] elements tt refl [] (es ++ fs) refl (omega arith) in
+    let a = content-fill c (es ++ fs) (omega arith) in
+    let b = content-fill e (es ++ fs) (omega arith) in
     sym (take-at es _ (length es) refl) ∙ (ap (take (length es)) (sym a ∙ b) ∙ take-at fs _ (length es) n)
 
 pub one-list : OneList

@@ -9,3 +9,7 @@ branch p q n d = record { start = p; end = q; «name_len» = n; depth = d; leaf 
 
 abbrev pub leaf : ℕ → ℕ → ℕ → ℕ → ℤ → Entry
 leaf p q n d v = record { start = p; end = q; «name_len» = n; depth = d; leaf = true; value = v }
+
+-- what is told of a node that is not there
+abbrev pub no-entry : Entry
+no-entry = branch 0 0 0 0

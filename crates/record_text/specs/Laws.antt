@@ -7,7 +7,8 @@ use Rattle.record_text.specs.Grammar.{Item, WellFormed, Fits}
 use Rattle.record_text.specs.Items.{ItemsOf}
 use Rattle.record_text.specs.Reading.{Outcome, Answer}
 use Rattle.record_text.specs.Opening.{Reads}
-use Rattle.record_text.specs.Shape.{RecordShape}
+use Rattle.record_text.specs.Texts.{text-nodes}
+use Rattle.records.specs.Nodes.{Shape}
 
 -- every text has one answer, and no other
 abbrev pub OneAnswer : Type 0
@@ -25,6 +26,6 @@ OneCut = (t : List ℕ) → (is : List Item) × ItemsOf t is × ((js : List Item
 abbrev pub FitsInText : Type 0
 FitsInText = (is : List Item) → Fits is → (t : List ℕ) × (es : List Entry) × (more : List Item) × WellFormed t es × ItemsOf t (is ++ more)
 
--- the entries of an accepted text have the shape of a record
+-- the nodes of an accepted text have the shape of a record
 abbrev pub KeepsShape : Type 0
-KeepsShape = (t : List ℕ) (es : List Entry) → Reads t es → RecordShape es
+KeepsShape = (t : List ℕ) (es : List Entry) → Reads t es → Shape (text-nodes t es)

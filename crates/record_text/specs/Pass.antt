@@ -3,7 +3,7 @@ use mathlib.Core.Bool.{Bool, true, false, _||_, _&&_}
 use mathlib.Core.List.{List, [], _∷_, _++_}
 use mathlib.Core.Option.{Option, some, none}
 use Prim.Native.Nat.{ℕ, _+_}
-use lib.Dec.{leb}
+use lib.Dec.{eqb, leb}
 use lib.ListN.{length, set}
 use Rattle.record_text.specs.declared.entry.Entry.{Entry}
 use Rattle.record_text.specs.Entries.{branch, leaf}
@@ -94,5 +94,15 @@ abbrev pub written : List Done → List Entry → List Entry
 written [] l = l
 written (x ∷ xs) l = written xs (set l (x .0) (x .1))
 
+-- the nodes that a text completes
+abbrev pub completed : List ℕ → List Done
+completed t = done 0 start (items t)
+
 abbrev pub entries : List ℕ → List Entry → List Entry
-entries t l = written (done 0 start (items t)) l
+entries t l = written (completed t) l
+
+-- whether the outcome is n nodes
+abbrev pub accepts : Outcome → ℕ → Bool
+accepts (accepted m) n = eqb m n
+accepts (misfit p) n = false
+accepts (limit p) n = false

@@ -8,6 +8,7 @@ use Rattle.refusals.specs.declared.Refusal.{Refusal}
 use Rattle.refusals.specs.declared.Refusal.the-variants as refusal
 use Rattle.record_text.specs.Reading.{Outcome, accepted, misfit, limit}
 use Rattle.record_text.specs.declared.entry.Entry.{Entry}
+use Rattle.record_text.specs.declared.tally.Tally.{Tally}
 use Rattle.record_text.specs.Opening.{Opened}
 use Rattle.record_text.specs.Pass.{entries, read}
 
@@ -15,6 +16,11 @@ abbrev pub outcome : Outcome → Result ℕ Refusal
 outcome (accepted n) = Ok n
 outcome (misfit p) = Err (refusal.Misfit p)
 outcome (limit p) = Err (refusal.Limit p)
+
+-- the number of nodes alone
+abbrev pub tallied : Result Tally Refusal → Result ℕ Refusal
+tallied (Ok x) = Ok (x .nodes)
+tallied (Err e) = Err e
 
 abbrev pub Faultless : List ℕ → Type 0
 Faultless t = (n : ℕ) × (read t ≡ accepted n)

@@ -1,5 +1,6 @@
-// The laws of record text: each function's contract is a theorem on the definitions that the contract of `open` cites.
+// The laws of record text: each function's contract is a theorem on the definitions that the contracts of `open` and of text records cite.
 ghost use Rattle.record_text.specs.Laws.{FitsInText, KeepsShape, OneAnswer, OneCut, OneList};
+ghost use Rattle.record_text.specs.Laying.{RecordsRead};
 
 // Every text has one answer of those that the grammar and the limits give.
 pub fn one_answer() -> u8
@@ -29,9 +30,16 @@ pub fn fits_in_text() -> u8
     0
 }
 
-// The entries of an accepted text have the shape of a record.
+// The nodes of an accepted text have the shape of a record.
 pub fn keeps_shape() -> u8
     ensures { λ _. ⌜ KeepsShape ⌝ }
+{
+    0
+}
+
+// Every text record holds what the grammar derives of its text.
+pub fn records_read() -> u8
+    ensures { λ _. ⌜ RecordsRead ⌝ }
 {
     0
 }

@@ -1,11 +1,11 @@
-// The name of an open tag, which its closing tag has to have.
+// The name of a tag in the text.
 ghost use mathlib.Core.Path.{_≡_};
 ghost use Prim.Native.Nat.{_+_};
 ghost use Rattle.record_text.specs.Cutter.{part};
 ghost use Rattle.record_text.specs.Machine.{same};
 
 // The `len` bytes after the one at `place`, as far as the text goes.
-fn bytes_after(text: &[u8], place: usize, len: usize) -> &[u8]
+pub fn bytes_after(text: &[u8], place: usize, len: usize) -> &[u8]
     ensures { λ r. ⌜ now r ≡ part (now (text .entry)) (place + 1) (place + 1 + len) ⌝ }
 {
     let n = text.len();

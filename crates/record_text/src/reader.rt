@@ -1,20 +1,26 @@
 // The reading of a text, a step at a time.
-ghost use lib.ListN.{length, set};
+ghost use lib.ListN.{length};
 ghost use mathlib.Core.Path.{_≡_};
 ghost use Prim.Native.Nat.{_<_};
+ghost use Rattle.record_text.specs.Agree.{Agrees};
 ghost use Rattle.record_text.specs.Cutter.{Good, from, left, steps-left};
 ghost use Rattle.record_text.specs.Nest.{Ready, shape-of};
 ghost use Rattle.record_text.specs.Opening.{Opened, answered};
-ghost use Rattle.record_text.specs.Pass.{at-end, check, entries, read};
-ghost use Rattle.record_text.specs.Passing.{Faultless, Verdict, outcome};
+ghost use Rattle.record_text.specs.Pass.{at-end, check, completed, entries, read};
+ghost use Rattle.record_text.specs.Passing.{Faultless, Verdict, outcome, tallied};
 ghost use Rattle.record_text.specs.Reading.{Answer, Outcome};
 ghost use Rattle.record_text.specs.Turns.{Onward};
+ghost use Rattle.std.specs.Orderings.{Decides};
+ghost use Rattle.std.specs.Results.{Cases as ByOk};
+use crate::compare::put;
+use crate::compare::still;
 use crate::cutter::Cutter;
 use crate::cutter::Ended;
 use crate::cutter::State;
 use crate::entry::Entry;
 use crate::nest::Nest;
 use crate::nest::OpenTag;
+use crate::tally::Tally;
 use crate::turn::Turn;
 use records::MOST_LEVELS;
 use refusals::Refusal;
@@ -63,19 +69,12 @@ fn finish(text: &[u8], cutter: &Cutter, nest: &mut Nest<'_>) -> Result<usize, Re
     }
 }
 
-// Writes the entry of a node that lies in the list.
-fn put(list: &mut [Entry], node: usize, entry: Entry)
-    ensures { λ _. ⌜ now (list .exit) ≡ set (now (list .entry)) node entry ⌝ }
-{
-    if node < list.len() {
-        list[node] = entry;
-    }
-}
-
-// One pass over the text: how many nodes it has, or the first item at fault. Writes the entry of each node that lies in the list.
-fn pass(text: &[u8], list: &mut [Entry]) -> Result<usize, Refusal>
-    ensures answer { λ r. ⌜ r ≡ outcome (read (now (text .entry))) ⌝ }
+// One pass over the text: how many nodes it has, or the first item at fault. Writes the entry of each node that lies in the list, and
+// says whether the list `held` has them all. One loop does both, so that `advance` has one caller.
+pub fn pass(text: &[u8], list: &mut [Entry], held: &[Entry]) -> Result<Tally, Refusal>
+    ensures answer { λ r. ⌜ tallied r ≡ outcome (read (now (text .entry))) ⌝ }
     ensures filled { λ _. ⌜ (Faultless (now (text .entry)) → now (list .exit) ≡ entries (now (text .entry)) (now (list .entry))) ⌝ }
+    ensures compared { λ r. ⌜ ByOk r (λ x. Decides (x .same) (Agrees (completed (now (text .entry))) (now (held .entry)))) (λ e. Unit) ⌝ }
 {
     let mut slots = [OpenTag {
         place: 0,
@@ -84,15 +83,20 @@ fn pass(text: &[u8], list: &mut [Entry]) -> Result<usize, Refusal>
     }; MOST_LEVELS];
     let mut nest = Nest::over(&mut slots);
     let mut cutter = Cutter::new();
+    let mut same = true;
     while cutter.at < text.len() {
         match advance(text, &mut cutter, &mut nest) {
             Turn::On => {}
-            Turn::Done(node, entry) => put(list, node, entry),
+            Turn::Done(node, entry) => {
+                put(list, node, entry);
+                same = still(same, held, node, entry);
+            }
             Turn::Misfit(place) => return Err(Refusal::Misfit(place)),
             Turn::Limit(place) => return Err(Refusal::Limit(place)),
         }
     }
-    finish(text, &cutter, &mut nest)
+    let nodes = finish(text, &cutter, &mut nest)?;
+    Ok(Tally { nodes, same })
 }
 
 // What `open` answers, before anything is written: a pass over the text that writes nothing, and then the room in the list.
@@ -100,11 +104,11 @@ fn verdict(text: &[u8], list: &[Entry]) -> Result<usize, Refusal>
     ensures answer { λ r. ⌜ Verdict (now (text .entry)) (now (list .entry)) r ⌝ }
     ensures only { λ r. ⌜ ((o : Outcome) → Answer (now (text .entry)) o → r ≡ answered (length (now (list .entry))) o) ⌝ }
 {
-    let nodes = pass(text, &mut [])?;
-    if nodes > list.len() {
+    let tally = pass(text, &mut [], &[])?;
+    if tally.nodes > list.len() {
         return Err(Refusal::Short);
     }
-    Ok(nodes)
+    Ok(tally.nodes)
 }
 
 // Writes one entry a node of the text into the list, and answers how many there are. Nothing is written before the whole text is
@@ -114,6 +118,6 @@ pub fn open(text: &[u8], list: &mut [Entry]) -> Result<usize, Refusal>
     ensures only { λ r. ⌜ ((o : Outcome) → Answer (now (text .entry)) o → r ≡ answered (length (now (list .entry))) o) ⌝ }
 {
     let nodes = verdict(text, list)?;
-    let _ = pass(text, list);
+    let _ = pass(text, list, &[]);
     Ok(nodes)
 }

@@ -11,6 +11,8 @@ pub enum Refusal {
     Limit(usize),
     // a lent list that is too short
     Short,
+    // a list that does not begin with what `open` writes for the text
+    List,
     // a program's input that is not of its form
     Input,
 }
@@ -23,6 +25,7 @@ impl Refusal {
             Refusal::Misfit(_) => 3,
             Refusal::Limit(_) => 4,
             Refusal::Short => 6,
+            Refusal::List => 7,
             Refusal::Input => 8,
         }
     }
@@ -32,7 +35,7 @@ impl Refusal {
     {
         match self {
             Refusal::Misfit(place) | Refusal::Limit(place) => Some(*place),
-            Refusal::Short | Refusal::Input => None,
+            Refusal::Short | Refusal::List | Refusal::Input => None,
         }
     }
 }

@@ -1,4 +1,4 @@
-use Rattle.record_text.proofs.Shapes.{keeps-shape}
+use Rattle.record_text.proofs.Tells.{keeps-shape}
 use Rattle.record_text.proofs.laws.keeps_shape.Needs as need
 
 pub returns : need.returns
