@@ -3,7 +3,7 @@ use mathlib.Core.List.{List}
 use mathlib.Core.Path.{_≡_, sym, ap, subst, _∙_}
 use Prim.Native.Nat.{ℕ}
 use native.Mathlib.Omega.{arith}
-use lib.ListN.{length, take, drop}
+use lib.ListN.{length, take, drop, length-map}
 use Rattle.std.specs.declared.result.Result.{Result}
 use Rattle.std.specs.declared.result.Result.the-variants.{Ok, Err}
 use Rattle.std.specs.Vec.{made}
@@ -14,7 +14,8 @@ use Rattle.refusals.specs.Refusals.{number, places}
 use Rattle.record_text.specs.declared.entry.Entry.{Entry}
 use Rattle.records.specs.Limits.{most-nodes}
 use Rattle.record_text.specs.Opening.{Opened, Refuses, misfits, limits, short}
-use Rattle.record_text.proofs.Shapes.{keeps-shape}
+use Rattle.record_text.specs.Texts.{text-node}
+use Rattle.record_text.proofs.Tells.{keeps-shape}
 use Rattle.reports.specs.Lines.{refused-line}
 use Rattle.reports.specs.Outlines.{Reported, listing}
 use Rattle.reports.specs.Outlines as outlines
@@ -23,7 +24,7 @@ use Rattle.reports.specs.Outlines as outlines
 pub refusal-reported : (t : List ℕ) (m n : ℕ) (ps : List ℕ) → m ≡ most-nodes → Refuses t m n ps → Reported t (refused-line n ps)
 refusal-reported t m _ _ e (misfits p h) = outlines.misfits p h
 refusal-reported t m _ _ e (limits p h) = outlines.limits p h
-refusal-reported t m _ _ e (short es h l) = let s = keeps-shape t es h .2 in absurd (omega arith)
+refusal-reported t m _ _ e (short es h l) = let s = keeps-shape t es h .0 in let n = length-map es (text-node t) in absurd (omega arith)
 
 pub nodes-reported : {V E : Type 0} (bytes : V → List ℕ) (t : List ℕ) (l l′ part : List Entry) (n : ℕ) (r : Result V E) →
     Opened t l (Ok n) l′ → part ≡ take n l′ → made r (λ v. bytes v ≡ listing t part) → made r (λ v. Reported t (bytes v))
