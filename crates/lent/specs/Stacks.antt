@@ -13,9 +13,10 @@ module _ {T : Type 0} where
   abbrev pub held : Stack T → List T
   held s = take (s .count) (lent s)
 
-  -- the entries but for the newest
+  -- the entries but for the newest: those held are the front of the slice, so this is a shorter front of it
   abbrev pub older : Stack T → List T
   older s = take (length (held s) - 1) (lent s)
 
+  -- how many entries fit in all
   abbrev pub room : Stack T → ℕ
   room s = length (lent s)

@@ -1,4 +1,4 @@
-// A stack over a slice that the caller lends, last in, first out, for every kind of entry.
+// A stack over a slice that the caller lends, last in, first out, for every kind of entry that is `Copy`.
 mod ops;
 
 // `count` entries lie at the front of the slots. No ghost field says that they fit: beside a `&mut` it would keep the slice

@@ -331,4 +331,4 @@ small-number s v = of-size
 
 pub worked-numbers : WorkedNumbers
 unfolding figures first-point fraction thousandths has-minus exact
-worked-numbers = (number-sound _ _ refl, number-sound _ _ refl, number-sound _ _ refl)
+worked-numbers = (number-sound _ _ refl, number-sound _ _ refl, number-sound _ _ refl, number-sound _ _ refl)

@@ -124,4 +124,4 @@ figure-kind Other = false
 
 -- Half a hundredth goes away from zero, and less than half toward it.
 abbrev pub WorkedNumbers : Type 0
-WorkedNumbers = Number (codes "-0.005") (negsuc 0) × Number (codes "-0.004") (pos 0) × Number (codes "33.005") (pos 3301)
+WorkedNumbers = Number (codes "-0.005") (negsuc 0) × Number (codes "-0.004") (pos 0) × Number (codes "33.005") (pos 3301) × Number (codes "22.004") (pos 2200)

@@ -16,7 +16,7 @@ pub fn number_rule() -> u8
     0
 }
 
-// Three numbers with their values.
+// Four numbers with their values.
 pub fn worked_numbers() -> u8
     ensures { λ _. ⌜ WorkedNumbers ⌝ }
 {

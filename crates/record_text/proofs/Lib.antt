@@ -16,6 +16,7 @@ pub mod Nests
 pub mod Onwards
 pub mod Endings
 pub mod Opens
+pub mod Openings
 pub mod Agreeing
 pub mod Lays
 pub mod TextNodes

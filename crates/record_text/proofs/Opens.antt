@@ -1,11 +1,9 @@
 -- From the two passes to the answer of `open`.
-use mathlib.Core.Bool.{cond}
-use mathlib.Core.List.{List, [], _++_}
-use mathlib.Core.Path.{_≡_, refl, sym, ap, subst, _∙_}
+use mathlib.Core.List.{List, _++_}
+use mathlib.Core.Path.{_≡_, sym, ap, subst, _∙_}
 use Prim.Native.Nat.{ℕ, _≤_, _<_}
 use native.Mathlib.Omega.{arith}
 use lib.ListN.{length, drop}
-use Rattle.std.proofs.shelf.Tests.{le-leb, lt-leb}
 use Rattle.std.specs.Results.{ErrBy}
 use Rattle.std.specs.declared.result.Result.{Result}
 use Rattle.std.specs.declared.result.Result.the-variants.{Ok, Err}
@@ -15,10 +13,10 @@ use Rattle.refusals.specs.Refusals.{number, places}
 use Rattle.record_text.specs.declared.entry.Entry.{Entry}
 use Rattle.record_text.specs.Reading.{Outcome, accepted, misfit, limit, Answer, Accepted}
 use Rattle.record_text.specs.Pass.{start, read, done, written, entries}
-use Rattle.record_text.specs.Opening.{Refuses, misfits, limits, short, Opened, answered}
+use Rattle.record_text.specs.Opening.{Refuses, misfits, limits, short, Opened}
 use Rattle.record_text.specs.Passing.{outcome}
 use Rattle.record_text.proofs.Read.{read-answers}
-use Rattle.record_text.proofs.Only.{only, items-are}
+use Rattle.record_text.proofs.Only.{items-are}
 use Rattle.record_text.proofs.Fill.{content-fill}
 
 pub unlike : {X : Type 0} → _≡_ {A = ℕ} 0 1 → X
@@ -46,30 +44,16 @@ refused-by t n (accepted m) e a h = unlike cc
 refused-by t n (misfit p) e a h = subst (Refused t n) (sym (err-same e (refusal.Misfit p) h)) (misfits p a)
 refused-by t n (limit p) e a h = subst (Refused t n) (sym (err-same e (refusal.Limit p) h)) (limits p a)
 
-answered-by : (n : ℕ) (o : Outcome) (e : Refusal) → _≡_ {A = Result ℕ Refusal} (Err e) (outcome o) → _≡_ {A = Result ℕ Refusal} (Err e) (answered n o)
-answered-by n (accepted m) e h = unlike cc
-answered-by n (misfit p) e h = h
-answered-by n (limit p) e h = h
-
 module _ (t : List ℕ) (l : List Entry) where
   pub refused : (e : Refusal) → _≡_ {A = Result ℕ Refusal} (Err e) (outcome (read t)) → Refused t (length l) e
   refused e h = refused-by t (length l) (read t) e (read-answers t) h
-
-  pub only-refused : (e : Refusal) → _≡_ {A = Result ℕ Refusal} (Err e) (outcome (read t)) → (o : Outcome) → Answer t o → _≡_ {A = Result ℕ Refusal} (Err e) (answered (length l) o)
-  only-refused e h o a = answered-by (length l) o e (h ∙ ap outcome (only t o a))
 
   module _ (n : ℕ) (h : _≡_ {A = Result ℕ Refusal} (Ok n) (outcome (read t))) where
     accepts : Accepted t n
     accepts = subst (Answer t) (counted (read t) n h) (read-answers t)
 
-    only-accepts : (o : Outcome) → Answer t o → accepted n ≡ o
-    only-accepts o a = sym (counted (read t) n h) ∙ only t o a
-
     pub too-short : length l < n → Refused t (length l) refusal.Short
     too-short k = let a = accepts in short (a .1) (a .0, a .2, a .3, a .4) (omega (arith, a .5))
-
-    pub only-short : length l < n → (o : Outcome) → Answer t o → _≡_ {A = Result ℕ Refusal} (Err refusal.Short) (answered (length l) o)
-    only-short k o a = sym (ap (λ b. cond b (Ok n) (Err refusal.Short)) (lt-leb n (length l) k)) ∙ ap (answered (length l)) (only-accepts o a)
 
     pub filled : n ≤ length l → (l′ : List Entry) → l′ ≡ entries t l → Opened t l (Ok n) l′
     filled k l′ e =
@@ -78,6 +62,3 @@ module _ (t : List ℕ) (l : List Entry) where
         let b : length (a .1) ≤ length l = omega (arith, a .5) in
         let q : entries t l ≡ a .1 ++ drop (length (a .1)) l = ap (λ is. written (done 0 start is) l) (items-are t (a .0) (a .2)) ∙ content-fill c l b in
         (a .1, (a .0, a .2, c, a .4), a .5, k, e ∙ (q ∙ ap (λ m. a .1 ++ drop m l) (a .5)))
-
-    pub only-filled : n ≤ length l → (o : Outcome) → Answer t o → _≡_ {A = Result ℕ Refusal} (Ok n) (answered (length l) o)
-    only-filled k o a = sym (ap (λ b. cond b (Ok n) (Err refusal.Short)) (le-leb n (length l) k)) ∙ ap (answered (length l)) (only-accepts o a)

@@ -6,9 +6,9 @@ use native.Mathlib.Omega.{arith}
 use lib.ListN.{length, take, length-append}
 use Rattle.std.proofs.shelf.Lists.{take-at}
 use Rattle.record_text.specs.declared.entry.Entry.{Entry}
-use Rattle.record_text.specs.Grammar.{Item, text, Content}
+use Rattle.record_text.specs.Grammar.{Item, text, Content, Fits}
 use Rattle.record_text.specs.Items.{Cut}
-use Rattle.record_text.specs.Laws.{OneAnswer, OneList, OneCut, FitsInText}
+use Rattle.record_text.specs.Laws.{OneAnswer, OneList, OneCut, BeginsText, FitsInText}
 use Rattle.record_text.specs.Machine.{elements}
 use Rattle.record_text.proofs.Complete.{content-run}
 use Rattle.record_text.proofs.Lex.{items, cut-lex, items-text, items-cut}
@@ -23,7 +23,7 @@ one-answer t = (read t, read-answers t, only t)
 content-items : (is : List Item) (es : List Entry) → Content 0 0 is es → items (text is) ≡ is
 content-items is es c = cut-lex is (subst Cut (append-nil is) (content-cut c [] tt))
 
-same-entries : (is : List Item) (es fs : List Entry) → Content 0 0 is es → Content 0 0 is fs → es ≡ fs
+pub same-entries : (is : List Item) (es fs : List Entry) → Content 0 0 is es → Content 0 0 is fs → es ≡ fs
 same-entries is es fs c e =
     let q = some-same _ _ (sym (content-run c 0 [] elements tt .2) ∙ content-run e 0 [] elements tt .2) in
     let n : length fs ≡ length es = omega (arith, ap (λ z. z .nodes) q) in
@@ -38,7 +38,15 @@ one-list t es fs (is, e, c) (js, f, d) = same-entries is es fs c (subst (λ k. C
 pub one-cut : OneCut
 one-cut t = (items t, (items-text t, items-cut t), items-are t)
 
-pub fits-in-text : FitsInText
-fits-in-text is f =
+text-begins : (is : List Item) → BeginsText is → Fits is
+text-begins is (t, es, more, (js, e, c), io) =
+    let q : js ≡ is ++ more = sym (content-items js es c) ∙ (ap items e ∙ items-are t (is ++ more) io) in
+    (more, es, subst (λ k. Content 0 0 k es) q c)
+
+fits-begin : (is : List Item) → Fits is → BeginsText is
+fits-begin is f =
     let l = is ++ f .0 in
     (text l, f .1, f .0, (l, refl, f .2), (refl, subst Cut (append-nil l) (content-cut (f .2) [] tt)))
+
+pub fits-in-text : FitsInText
+fits-in-text is = (fits-begin is, text-begins is)

@@ -54,7 +54,8 @@ Stray greater = Unit {0}
 Stray figure = ⊥
 Stray plain = Unit {0}
 
--- the first item is one, where the others follow: a tag ends at the first `>`, a run is as long as it can be
+-- `Ends i is`: i is cut rightly before the items `is`: a tag ends at its first `>`, a number item is as long as it can be, and a `<`
+-- without `>` takes all that is left
 abbrev pub Ends : Item → List Item → Type 0
 Ends (gap b) is = role b ≡ space
 Ends (tag bs) is = NoGreater bs

@@ -6,7 +6,9 @@ use Rattle.record_text.specs.declared.entry.Entry.{Entry}
 use Rattle.record_text.specs.Grammar.{Item, WellFormed, Fits}
 use Rattle.record_text.specs.Items.{ItemsOf}
 use Rattle.record_text.specs.Reading.{Outcome, Answer}
-use Rattle.record_text.specs.Opening.{Reads}
+use Rattle.record_text.specs.Opening.{Reads, Opened}
+use Rattle.std.specs.declared.result.Result.{Result}
+use Rattle.refusals.specs.declared.Refusal.{Refusal}
 use Rattle.record_text.specs.Texts.{text-nodes}
 use Rattle.records.specs.Nodes.{Shape}
 
@@ -22,9 +24,16 @@ OneList = (t : List ℕ) (es fs : List Entry) → WellFormed t es → WellFormed
 abbrev pub OneCut : Type 0
 OneCut = (t : List ℕ) → (is : List Item) × ItemsOf t is × ((js : List Item) → ItemsOf t js → is ≡ js)
 
--- items that fit begin the items of some well-formed text
+-- to a text and a list there is one answer, and one list afterwards
+abbrev pub OneOpening : Type 0
+OneOpening = (t : List ℕ) (l : List Entry) (r r′ : Result ℕ Refusal) (l′ l″ : List Entry) → Opened t l r l′ → Opened t l r′ l″ → (r ≡ r′) × (l′ ≡ l″)
+
+-- items fit exactly if the items of some well-formed text begin with them
+abbrev pub BeginsText : List Item → Type 0
+BeginsText is = (t : List ℕ) × (es : List Entry) × (more : List Item) × WellFormed t es × ItemsOf t (is ++ more)
+
 abbrev pub FitsInText : Type 0
-FitsInText = (is : List Item) → Fits is → (t : List ℕ) × (es : List Entry) × (more : List Item) × WellFormed t es × ItemsOf t (is ++ more)
+FitsInText = (is : List Item) → (Fits is → BeginsText is) × (BeginsText is → Fits is)
 
 -- the nodes of an accepted text have the shape of a record
 abbrev pub KeepsShape : Type 0

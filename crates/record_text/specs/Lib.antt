@@ -8,7 +8,8 @@ pub mod Texts
 pub mod Laying
 pub mod Parts
 pub mod Laws
--- A functional model of the reader, which the laws above tie to the grammar, and how the code follows it.
+-- A functional model of the reader, and how the code follows it. The contracts of `open` and `lay` do not cite it; proofs/ tie it to
+-- the grammar.
 pub mod Machine
 pub mod Pass
 pub mod Agree

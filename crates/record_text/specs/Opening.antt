@@ -1,10 +1,8 @@
 -- What `open` answers to a text and a lent list, and what the list is afterwards.
-use mathlib.Core.Bool.{cond}
 use mathlib.Core.List.{List, [], _∷_, _++_}
 use mathlib.Core.Logic.{_⊎_}
 use mathlib.Core.Path.{_≡_}
 use Prim.Native.Nat.{ℕ, _≤_, _<_}
-use lib.Dec.{leb}
 use lib.ListN.{length, drop}
 use Rattle.std.specs.declared.result.Result.{Result}
 use Rattle.std.specs.declared.result.Result.the-variants.{Ok, Err}
@@ -14,7 +12,7 @@ use Rattle.refusals.specs.Refusals.{number, places}
 use Rattle.record_text.specs.declared.entry.Entry.{Entry}
 use Rattle.record_text.specs.Grammar.{Item, Content}
 use Rattle.record_text.specs.Items.{ItemsOf}
-use Rattle.record_text.specs.Reading.{Within, Misfit, Unclosed, Limit, Outcome, accepted, misfit, limit}
+use Rattle.record_text.specs.Reading.{Within, Misfit, Unclosed, Limit}
 
 -- the grammar derives the text, with these entries, within the limits
 abbrev pub Reads : List ℕ → List Entry → Type 0
@@ -30,9 +28,3 @@ pub data Refuses (t : List ℕ) (m : ℕ) : ℕ → List ℕ → Type 0 where
 abbrev pub Opened : List ℕ → List Entry → Result ℕ Refusal → List Entry → Type 0
 Opened t l (Ok n) l′ = (es : List Entry) × Reads t es × (length es ≡ n) × (n ≤ length l) × (l′ ≡ es ++ drop n l)
 Opened t l (Err e) l′ = Refuses t (length l) (number e) (places e) × (l′ ≡ l)
-
--- the answer that an outcome of the reading comes to, where the list has m entries
-abbrev pub answered : ℕ → Outcome → Result ℕ Refusal
-answered m (accepted n) = cond (leb n m) (Ok n) (Err refusal.Short)
-answered m (misfit p) = Err (refusal.Misfit p)
-answered m (limit p) = Err (refusal.Limit p)

@@ -19,7 +19,8 @@ abbrev pub slash-last : List ℕ → Bool
 slash-last [] = false
 slash-last (b ∷ bs) = eqb (getD (b ∷ bs) (length bs) 0) 47
 
--- how many elements an item begins, leaves open, and closes
+-- how many elements an item begins, leaves open, and closes: by the slashes of a tag alone, which is right of items that fit, and
+-- used only beside `Fits` or `Content`
 abbrev pub begun-by : Item → ℕ
 begun-by (gap b) = 0
 begun-by (tag bs) = cond (slash-first bs) 0 1
@@ -49,7 +50,7 @@ total f (i ∷ is) = f i + total f is
 abbrev pub Over : List Item → Item → Type 0
 Over is i = (begun-by i ≡ 1) × ((most-nodes ≤ total begun-by is) ⊎ (most-levels ≤ total opened-by is - total closed-by is))
 
--- no element is over
+-- no item begins an element beyond a limit
 pub data Within : List Item → Type 0 where
   nothing : Within []
   one-more : {is : List Item} → Within is → (i : Item) → (Over is i → ⊥) → Within (is ++ i ∷ [])
@@ -62,7 +63,7 @@ Accepted t n = (is : List Item) × (es : List Entry) × ItemsOf t is × Content 
 abbrev pub Misfit : List ℕ → ℕ → Type 0
 Misfit t p = (is : List Item) × (i : Item) × (rest : List Item) × ItemsOf t (is ++ i ∷ rest) × Fits is × Within is × (Fits (is ++ i ∷ []) → ⊥) × (size is ≡ p)
 
--- all items fit, and an element is open at the end, which is p
+-- no item is at fault, and an element is open at the end, which is p
 abbrev pub Unclosed : List ℕ → ℕ → Type 0
 Unclosed t p = (is : List Item) × ItemsOf t is × Fits is × Within is × ((es : List Entry) → Content 0 0 is es → ⊥) × (size is ≡ p)
 

@@ -1,5 +1,5 @@
 // The laws of record text: each function's contract is a theorem on the definitions that the contracts of `open` and of text records cite.
-ghost use Rattle.record_text.specs.Laws.{FitsInText, KeepsShape, OneAnswer, OneCut, OneList};
+ghost use Rattle.record_text.specs.Laws.{FitsInText, KeepsShape, OneAnswer, OneCut, OneList, OneOpening};
 ghost use Rattle.record_text.specs.Laying.{RecordsRead};
 
 // Every text has one answer of those that the grammar and the limits give.
@@ -16,6 +16,13 @@ pub fn one_list() -> u8
     0
 }
 
+// To a text and a list there is one answer of `open`, and one list afterwards.
+pub fn one_opening() -> u8
+    ensures { λ _. ⌜ OneOpening ⌝ }
+{
+    0
+}
+
 // A text is cut into items in one way.
 pub fn one_cut() -> u8
     ensures { λ _. ⌜ OneCut ⌝ }
@@ -23,7 +30,7 @@ pub fn one_cut() -> u8
     0
 }
 
-// Items that fit begin the items of some well-formed text.
+// Items fit exactly if the items of some well-formed text begin with them.
 pub fn fits_in_text() -> u8
     ensures { λ _. ⌜ FitsInText ⌝ }
 {

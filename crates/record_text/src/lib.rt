@@ -17,6 +17,7 @@ pub use laws::keeps_shape;
 pub use laws::one_answer;
 pub use laws::one_cut;
 pub use laws::one_list;
+pub use laws::one_opening;
 pub use laws::records_read;
 pub use reader::open;
 pub use text::TextIsRecord;

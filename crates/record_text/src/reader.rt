@@ -5,10 +5,9 @@ ghost use Prim.Native.Nat.{_<_};
 ghost use Rattle.record_text.specs.Agree.{Agrees};
 ghost use Rattle.record_text.specs.Cutter.{Good, from, left, steps-left};
 ghost use Rattle.record_text.specs.Nest.{Ready, shape-of};
-ghost use Rattle.record_text.specs.Opening.{Opened, answered};
+ghost use Rattle.record_text.specs.Opening.{Opened};
 ghost use Rattle.record_text.specs.Pass.{at-end, check, completed, entries, read};
 ghost use Rattle.record_text.specs.Passing.{Faultless, Verdict, outcome, tallied};
-ghost use Rattle.record_text.specs.Reading.{Answer, Outcome};
 ghost use Rattle.record_text.specs.Turns.{Onward};
 ghost use Rattle.std.specs.Orderings.{Decides};
 ghost use Rattle.std.specs.Results.{Cases as ByOk};
@@ -101,8 +100,7 @@ pub fn pass(text: &[u8], list: &mut [Entry], held: &[Entry]) -> Result<Tally, Re
 
 // What `open` answers, before anything is written: a pass over the text that writes nothing, and then the room in the list.
 fn verdict(text: &[u8], list: &[Entry]) -> Result<usize, Refusal>
-    ensures answer { λ r. ⌜ Verdict (now (text .entry)) (now (list .entry)) r ⌝ }
-    ensures only { λ r. ⌜ ((o : Outcome) → Answer (now (text .entry)) o → r ≡ answered (length (now (list .entry))) o) ⌝ }
+    ensures { λ r. ⌜ Verdict (now (text .entry)) (now (list .entry)) r ⌝ }
 {
     let tally = pass(text, &mut [], &[])?;
     if tally.nodes > list.len() {
@@ -114,8 +112,7 @@ fn verdict(text: &[u8], list: &[Entry]) -> Result<usize, Refusal>
 // Writes one entry a node of the text into the list, and answers how many there are. Nothing is written before the whole text is
 // read, so a refusal leaves the list as it was.
 pub fn open(text: &[u8], list: &mut [Entry]) -> Result<usize, Refusal>
-    ensures opened { λ r. ⌜ Opened (now (text .entry)) (now (list .entry)) r (now (list .exit)) ⌝ }
-    ensures only { λ r. ⌜ ((o : Outcome) → Answer (now (text .entry)) o → r ≡ answered (length (now (list .entry))) o) ⌝ }
+    ensures { λ r. ⌜ Opened (now (text .entry)) (now (list .entry)) r (now (list .exit)) ⌝ }
 {
     let nodes = verdict(text, list)?;
     let _ = pass(text, list, &[]);

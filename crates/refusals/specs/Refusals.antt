@@ -1,22 +1,23 @@
--- Every refusal has a number, and carries the values that stand behind it. Contracts speak of refusals by these alone.
+-- Every refusal has a number, and names the places that stand behind it. Contracts speak of refusals by these alone.
 use mathlib.Core.List.{List, [], _∷_}
 use Prim.Native.Nat.{ℕ}
 use Rattle.refusals.specs.declared.Refusal.{Refusal}
 use Rattle.refusals.specs.declared.Refusal.the-variants.{Misfit, Limit, Short, List as OtherList, Input}
 
--- 3: an item of a record text does not fit; 4: an element passes the limits; 6: lent memory is too short;
--- 7: a list is not that of its text; 8: a program's input is not of its form
-abbrev pub number : Refusal → ℕ
-number (Misfit p) = 3
-number (Limit p) = 4
-number Short = 6
-number OtherList = 7
-number Input = 8
+-- 3: the first item at fault of a record text does not fit, or an element is open at its end;
+-- 4: the first item at fault of a record text begins an element beyond a limit;
+-- 6: a lent list is too short;
+-- 7: a list does not begin with the entries of its text;
+-- 8: a program's input is not of its form
+abbrev pub told : Refusal → ℕ × List ℕ
+told (Misfit p) = (3, p ∷ [])
+told (Limit p) = (4, p ∷ [])
+told Short = (6, [])
+told OtherList = (7, [])
+told Input = (8, [])
 
--- the places that it names
+abbrev pub number : Refusal → ℕ
+number e = told e .0
+
 abbrev pub places : Refusal → List ℕ
-places (Misfit p) = p ∷ []
-places (Limit p) = p ∷ []
-places Short = []
-places OtherList = []
-places Input = []
+places e = told e .1

@@ -5,9 +5,9 @@ ghost use Rattle.std.specs.Vec.{listOf};
 
 #[derive(Clone, Copy)]
 pub enum Refusal {
-    // a record text whose first item at fault, at this place, does not fit
+    // a record text whose first item at fault, at this place, does not fit, or that ends at this place with an element open
     Misfit(usize),
-    // a record text whose next element, at this place, passes the limits
+    // a record text whose first item at fault, at this place, begins an element beyond a limit
     Limit(usize),
     // a lent list that is too short
     Short,

@@ -44,7 +44,8 @@ fn put_behind<T: Copy>(slots: &mut [T], count: usize, x: T) -> Option<usize>
 }
 
 impl<'a, T: Copy> Stack<'a, T> {
-    // An empty stack over the slots.
+    // An empty stack over the slots. (`same`, here and below: it is the same loan, so the caller finds in its slice what the stack
+    // leaves there.)
     pub fn over(slots: &'a mut [T]) -> Stack<'a, T>
         ensures held { λ r. ⌜ held r ≡ [] ⌝ }
         ensures lent { λ r. ⌜ lent r ≡ now (slots .entry) ⌝ }
