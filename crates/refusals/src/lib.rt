@@ -9,6 +9,8 @@ pub enum Refusal {
     Misfit(usize),
     // a record text whose next element, at this place, passes the limits
     Limit(usize),
+    // a gate block that is not laid out as it should be, or whose nodes break the shape of records
+    Block,
     // a lent list that is too short
     Short,
     // a program's input that is not of its form
@@ -22,6 +24,7 @@ impl Refusal {
         match self {
             Refusal::Misfit(_) => 3,
             Refusal::Limit(_) => 4,
+            Refusal::Block => 5,
             Refusal::Short => 6,
             Refusal::Input => 8,
         }
@@ -32,7 +35,7 @@ impl Refusal {
     {
         match self {
             Refusal::Misfit(place) | Refusal::Limit(place) => Some(*place),
-            Refusal::Short | Refusal::Input => None,
+            Refusal::Block | Refusal::Short | Refusal::Input => None,
         }
     }
 }
