@@ -1,0 +1,4 @@
+mod Alls
+mod Cuts
+mod Runs
+mod Findings
