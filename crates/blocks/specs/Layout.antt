@@ -61,7 +61,7 @@ pub data Rows (ws : List (List ℕ)) : List ℕ → List Node → Type 0 where
 
 -- Block bs ns: a count of names and the names, a count of nodes and the nodes, and these have the shape of records.
 pub data Block : List ℕ → List Node → Type 0 where
-  block : (a b c d : ℕ) (bs rows : List ℕ) (ws : List (List ℕ)) (ns : List Node) →
+  laid-out : (a b c d : ℕ) (bs rows : List ℕ) (ws : List (List ℕ)) (ns : List Node) →
       number16 a b ≡ length ws →
       length ws ≤ most-names →
       Names bs ws (c ∷ d ∷ rows) →
