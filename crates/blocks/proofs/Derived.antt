@@ -1,24 +1,22 @@
 -- What the layout derives is a good block with those nodes.
-use mathlib.Core.Bool.{Bool, true, false, _&&_, cond}
+use mathlib.Core.Bool.{true, cond}
 use mathlib.Core.List.{List, [], _∷_, _++_, map}
 use mathlib.Core.Path.{_≡_, refl, sym, ap, _∙_}
-use Prim.Native.Nat.{ℕ, zero, suc, _+_, _-_, _*_, _≤_, _<_}
+use Prim.Native.Nat.{ℕ, zero, suc, _+_, _*_, _<_}
 use native.Mathlib.Numerals.{add-one}
 use native.Mathlib.Omega.{arith}
-use lib.Dec.{eqb, leb, ltb}
-use lib.IntN.{ℤ, pos, natAbs}
-use lib.ListN.{length, getD, take, drop, length-drop}
+use lib.Dec.{eqb, ltb}
+use lib.IntN.{ℤ, natAbs}
+use lib.ListN.{length, getD, take, drop}
 use Rattle.std.specs.Iters.{counting}
-use Rattle.std.specs.declared.option.Option.{Option}
 use Rattle.std.specs.declared.option.Option.the-variants.{Some, None}
 use Rattle.std.proofs.shelf.Lists.{drop-at, drop-drop, getD-drop, take-at}
-use Rattle.std.proofs.shelf.Tests.{and-from, eq-eqb, le-leb, lt-ltb}
+use Rattle.std.proofs.shelf.Tests.{and-from, le-leb, lt-ltb}
 use Rattle.lexical.specs.Rounding.{hundredths}
 use Rattle.lexical.specs.Words.{all, word}
-use Rattle.records.specs.Limits.{most-nodes}
-use Rattle.records.specs.Nodes.{Node, shaped}
-use Rattle.blocks.specs.Layout.{most-names, greatest-thousandths, branch, leaf, number16, number32, Names, no-name, a-name, Rows, no-row, a-branch, a-leaf, Block, laid-out}
-use Rattle.blocks.specs.Places.{read32, name-count, name-start, name-at, name-of, second-start, node-count, node-start, name-number, node-depth, node-kind, node-thousandths, node-value, node-at, node-fits, size-fits, block-nodes, all-words, all-fit, good-block}
+use Rattle.records.specs.Nodes.{Node}
+use Rattle.blocks.specs.Layout.{greatest-thousandths, branch, leaf, number32, Names, no-name, a-name, Rows, no-row, a-branch, a-leaf}
+use Rattle.blocks.specs.Places.{name-count, name-start, name-of, node-start, name-number, node-depth, node-kind, node-thousandths, node-value, node-at, node-fits, size-fits}
 
 -- bytes whose part from a place on is known
 module _ (bs : List ℕ) (at : ℕ) (xs : List ℕ) (h : drop at bs ≡ xs) where

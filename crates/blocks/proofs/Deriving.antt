@@ -1,13 +1,13 @@
 -- A good block is derived by the layout.
-use mathlib.Core.Bool.{Bool, true, false, _&&_, cond}
+use mathlib.Core.Bool.{true, false, _&&_, cond}
 use mathlib.Core.List.{List, [], _∷_, _++_, map}
 use mathlib.Core.Path.{_≡_, refl, sym, ap, subst, _∙_}
-use Prim.Native.Nat.{ℕ, zero, suc, _+_, _-_, _*_, _≤_, _<_}
+use Prim.Native.Nat.{ℕ, zero, suc, _+_, _*_, _≤_, _<_}
 use native.Mathlib.Numerals.{add-one}
 use native.Mathlib.Omega.{arith}
 use lib.Dec.{eqb, leb, ltb}
 use lib.IntN.{ℤ, pos, negsuc, natAbs}
-use lib.ListN.{length, getD, take, drop, length-drop}
+use lib.ListN.{length, getD, drop, length-drop}
 use Rattle.std.specs.Iters.{counting}
 use Rattle.std.specs.declared.option.Option.{Option}
 use Rattle.std.specs.declared.option.Option.the-variants.{Some, None}
@@ -16,8 +16,8 @@ use Rattle.std.proofs.shelf.Tests.{and-parts, eqb-true, leb-true, ltb-true}
 use Rattle.lexical.specs.Rounding.{hundredths}
 use Rattle.lexical.specs.Words.{all, word}
 use Rattle.records.specs.Nodes.{Node}
-use Rattle.blocks.specs.Layout.{greatest-thousandths, branch, leaf, number32, Names, no-name, a-name, Rows, no-row, a-branch, a-leaf}
-use Rattle.blocks.specs.Places.{name-count, name-start, name-at, name-of, node-start, name-number, node-depth, node-kind, node-thousandths, node-value, node-at, node-fits, size-fits}
+use Rattle.blocks.specs.Layout.{greatest-thousandths, branch, leaf, Names, no-name, a-name, Rows, no-row, a-branch, a-leaf}
+use Rattle.blocks.specs.Places.{name-count, name-start, name-at, name-of, node-start, name-number, node-depth, node-kind, node-thousandths, node-at, node-fits}
 
 -- names start one after another
 pub starts-rise : (bs : List ℕ) (k n m : ℕ) → k + n ≡ m → name-start bs k ≤ name-start bs m

@@ -1,8 +1,8 @@
 -- What is answered of a node that is there, and of one that is not.
-use mathlib.Core.Bool.{Bool, true, false, _&&_}
+use mathlib.Core.Bool.{Bool, true, _&&_}
 use mathlib.Core.List.{List}
 use mathlib.Core.Path.{_≡_, sym, ap, _∙_}
-use Prim.Native.Nat.{ℕ, _+_, _≤_, _<_}
+use Prim.Native.Nat.{ℕ, _≤_, _<_}
 use native.Mathlib.Omega.{arith}
 use lib.Dec.{ltb}
 use lib.ListN.{length, getD}
@@ -10,10 +10,10 @@ use Rattle.std.specs.shelf.Text.{sameBytes}
 use Rattle.std.proofs.shelf.Counted.{getD-counting, getD-map-counting, length-counting}
 use Rattle.std.proofs.shelf.Lists.{getD-past}
 use Rattle.std.proofs.shelf.Tests.{and-left, and-parts, le-ltb, lt-ltb, ltb-true}
-use Rattle.records.specs.Nodes.{Node, no-node, named-at}
-use Rattle.blocks.specs.Places.{block-nodes, block-places, good-block, name-count, name-of, name-number, node-at, node-count, node-fits, node-start}
+use Rattle.records.specs.Nodes.{Node, no-node}
+use Rattle.blocks.specs.Places.{block-nodes, block-places, good-block, name-count, name-number, node-at, node-count, node-fits, node-start}
 use Rattle.blocks.specs.Reading.{Found, Missing}
-use Rattle.blocks.specs.Shaping.{Good, good-parts, block-length}
+use Rattle.blocks.specs.Shaping.{good-parts, block-length}
 use Rattle.blocks.proofs.Alls.{all-at}
 
 module _ (bs : List ℕ) (n : ℕ) where

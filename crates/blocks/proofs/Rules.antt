@@ -1,8 +1,8 @@
 -- The layout, and what is computed by places, are the same.
-use mathlib.Core.Bool.{Bool, true, _&&_}
+use mathlib.Core.Bool.{true}
 use mathlib.Core.List.{List, [], _∷_, map}
 use mathlib.Core.Path.{_≡_, refl, sym, ap, subst, _∙_}
-use Prim.Native.Nat.{ℕ, _+_, _-_, _*_, _≤_, _<_}
+use Prim.Native.Nat.{ℕ, _+_, _-_, _<_}
 use native.Mathlib.Omega.{arith}
 use lib.Dec.{eqb, leb}
 use lib.ListN.{length, getD, drop, length-drop}
@@ -10,11 +10,10 @@ use Rattle.std.specs.Iters.{counting}
 use Rattle.std.proofs.shelf.Counted.{getD-map-counting, length-map-counting}
 use Rattle.std.proofs.shelf.Lists.{drop-more}
 use Rattle.std.proofs.shelf.Tests.{and-from, eq-eqb, le-leb}
-use Rattle.lexical.specs.Words.{all, word}
 use Rattle.records.specs.Limits.{most-nodes}
 use Rattle.records.specs.Nodes.{Node, shaped}
-use Rattle.blocks.specs.Layout.{most-names, number16, Names, Rows, Block, laid-out}
-use Rattle.blocks.specs.Places.{name-count, name-start, name-of, second-start, node-count, node-start, node-at, node-fits, block-nodes, all-words, all-fit, good-block}
+use Rattle.blocks.specs.Layout.{most-names, Names, Rows, Block, laid-out}
+use Rattle.blocks.specs.Places.{name-count, name-of, second-start, node-count, node-start, node-at, block-nodes, all-words, all-fit, good-block}
 use Rattle.blocks.specs.Laws.{BlockRule}
 use Rattle.blocks.specs.Shaping.{Good, good-parts, block-length, block-shape}
 use Rattle.blocks.proofs.Derived.{byte-at, rest-at, names-read, rows-tell}

@@ -2,18 +2,18 @@
 use mathlib.Core.Bool.{Bool, true, false, _&&_, cond}
 use mathlib.Core.List.{List, map}
 use mathlib.Core.Path.{_≡_, refl, sym, ap, _∙_}
-use Prim.Native.Nat.{ℕ, zero, suc, _+_, _-_, _*_, _/_, _≤_, _<_}
+use Prim.Native.Nat.{ℕ, zero, suc, _+_, _-_, _*_, _≤_, _<_}
 use native.Mathlib.Omega.{arith}
 use lib.Dec.{ltb, leb, eqb}
 use lib.IntN.{ℤ, pos, negsuc, negℤ, natAbs}
 use Rattle.std.specs.Iters.{counting}
 use Rattle.std.specs.declared.option.Option.{Option}
 use Rattle.std.specs.declared.option.Option.the-variants.{Some, None}
-use Rattle.std.proofs.shelf.Tests.{and-left, and-parts, eqb-true, le-leb, leb-true, ltb-true}
+use Rattle.std.proofs.shelf.Tests.{and-parts, le-leb, leb-true, ltb-true}
 use Rattle.lexical.specs.Rounding.{hundredths, nearest}
 use Rattle.lexical.specs.Words.{all, word}
 use Rattle.records.specs.Limits.{greatest-value, most-levels}
-use Rattle.records.specs.Nodes.{Node, next-depth, ranged, shaped}
+use Rattle.records.specs.Nodes.{next-depth, ranged, shaped}
 use Rattle.blocks.specs.Layout.{branch, greatest-thousandths, leaf, node-bytes}
 use Rattle.blocks.specs.Places.{all-fit, all-words, block-nodes, name-count, name-of, name-number, node-at, node-count, node-depth, node-fits, node-kind, node-start, node-thousandths, node-value, size-fits}
 use Rattle.blocks.specs.Reading.{follows, next-room, room-after}

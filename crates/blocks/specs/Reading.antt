@@ -11,7 +11,7 @@ use Rattle.std.specs.shelf.Text.{sameBytes}
 use Rattle.records.specs.Limits.{most-nodes, most-levels}
 use Rattle.records.specs.Nodes.{depth-at, value-at, named-at}
 use Rattle.blocks.specs.Layout.{leaf, most-names}
-use Rattle.blocks.specs.Places.{name-count, name-start, name-of, node-start, node-count, name-number, node-depth, node-kind, node-value, node-fits, block-nodes, block-places, all-words, good-block}
+use Rattle.blocks.specs.Places.{name-count, name-start, name-of, node-start, name-number, node-depth, node-kind, node-value, node-fits, block-nodes, block-places, all-words, good-block}
 
 -- the names of a block that are words, with a table of where they start, and where they end
 pub record Named (bs starts : List ℕ) (count end : ℕ) : Type 0 where

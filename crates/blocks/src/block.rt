@@ -31,6 +31,7 @@ pub struct BlockRecord<'b> {
     ghost good: { good-block (now block) ≡ true },
     ghost table: { (k : ℕ) → k < name-count (now block) → getD (plan .starts) k 0 ≡ name-start (now block) k },
     ghost begins: { plan .first ≡ node-start (now block) 0 },
+    // Before the first node stand two counts, and names of at most 256 bytes with their lengths.
     ghost near: { plan .first ≤ 4 + 256 * most-names },
     ghost counts: { plan .count ≡ length (block-nodes (now block)) },
     ghost few: { plan .count ≤ most-nodes },

@@ -22,7 +22,7 @@ pub fn depth(block: &[u8], at: u16) -> u8
     byte(block, usize::from(at) + 1)
 }
 
-pub fn kind(block: &[u8], at: u16) -> u8
+fn kind(block: &[u8], at: u16) -> u8
     ensures { λ r. ⌜ r ≡ node-kind (now (block .entry)) at ⌝ }
 {
     byte(block, usize::from(at) + 2)

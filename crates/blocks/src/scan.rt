@@ -31,6 +31,7 @@ fn read_names(block: &[u8], count: u16, starts: &mut [u16; MOST_NAMES]) -> Optio
     requires { ⌜ count ≤ most-names ⌝ }
     ensures { λ r. ⌜ BySome r (all-words (now (block .entry)) count ≡ false) (λ end. Named (now (block .entry)) (now (starts .exit)) count end) ⌝ }
 {
+    // The names begin behind their count, which takes two bytes.
     let mut at: u16 = 2;
     for k in 0..usize::from(count) {
         if !is_word(name_at(block, at)) {

@@ -1,5 +1,5 @@
 use mathlib.Core.Path.{_≡_}
-use Prim.Native.Nat.{_-_, _≤_}
+use Prim.Native.Nat.{_-_}
 use Rattle.blocks.proofs.Runs.{run}
 use Rattle.blocks.proofs.scan.nodes_fit.Given as given
 
