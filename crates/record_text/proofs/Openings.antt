@@ -44,6 +44,7 @@ module _ (t : List ℕ) (m : ℕ) where
 is-misfit : (e : Refusal) (p : ℕ) → number e ≡ 3 → places e ≡ p ∷ [] → e ≡ refusal.Misfit p
 is-misfit (refusal.Misfit q) p n e = let z : q ≡ p = cc in ap refusal.Misfit z
 is-misfit (refusal.Limit q) p n e = absurd (omega arith)
+is-misfit refusal.Block p n e = absurd (omega arith)
 is-misfit refusal.Short p n e = absurd (omega arith)
 is-misfit refusal.List p n e = absurd (omega arith)
 is-misfit refusal.Input p n e = absurd (omega arith)
@@ -51,6 +52,7 @@ is-misfit refusal.Input p n e = absurd (omega arith)
 is-limit : (e : Refusal) (p : ℕ) → number e ≡ 4 → places e ≡ p ∷ [] → e ≡ refusal.Limit p
 is-limit (refusal.Misfit q) p n e = absurd (omega arith)
 is-limit (refusal.Limit q) p n e = let z : q ≡ p = cc in ap refusal.Limit z
+is-limit refusal.Block p n e = absurd (omega arith)
 is-limit refusal.Short p n e = absurd (omega arith)
 is-limit refusal.List p n e = absurd (omega arith)
 is-limit refusal.Input p n e = absurd (omega arith)
@@ -58,6 +60,7 @@ is-limit refusal.Input p n e = absurd (omega arith)
 is-short : (e : Refusal) → number e ≡ 6 → e ≡ refusal.Short
 is-short (refusal.Misfit q) n = absurd (omega arith)
 is-short (refusal.Limit q) n = absurd (omega arith)
+is-short refusal.Block n = absurd (omega arith)
 is-short refusal.Short n = refl
 is-short refusal.List n = absurd (omega arith)
 is-short refusal.Input n = absurd (omega arith)

@@ -9,6 +9,8 @@ pub enum Refusal {
     Misfit(usize),
     // a record text whose first item at fault, at this place, begins an element beyond a limit
     Limit(usize),
+    // a gate block that is not laid out as it should be, or whose nodes break the shape of records
+    Block,
     // a lent list that is too short
     Short,
     // a list that does not begin with what `open` writes for the text
@@ -24,6 +26,7 @@ impl Refusal {
         match self {
             Refusal::Misfit(_) => 3,
             Refusal::Limit(_) => 4,
+            Refusal::Block => 5,
             Refusal::Short => 6,
             Refusal::List => 7,
             Refusal::Input => 8,
@@ -35,7 +38,7 @@ impl Refusal {
     {
         match self {
             Refusal::Misfit(place) | Refusal::Limit(place) => Some(*place),
-            Refusal::Short | Refusal::List | Refusal::Input => None,
+            Refusal::Block | Refusal::Short | Refusal::List | Refusal::Input => None,
         }
     }
 }

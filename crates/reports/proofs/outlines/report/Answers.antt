@@ -5,7 +5,7 @@ use Rattle.reports.proofs.Reporting.{nodes-reported, refused-reported}
 use Rattle.reports.proofs.outlines.report.Needs as need
 
 pub returns-in-Ok : need.returns-in-Ok
-returns-in-Ok c = nodes-reported vec-items (c .args .text .now) _ _ _ (c .in-Ok .nodes) (c .listing .result) (c .in-Ok .ensures tt .opened) (search (needs, refilled-is)) (c .listing .ensures)
+returns-in-Ok c = nodes-reported vec-items (c .args .text .now) _ _ _ (c .in-Ok .nodes) (c .listing .result) (c .in-Ok .ensures tt) (search (needs, refilled-is)) (c .listing .ensures)
 
 pub returns : need.returns
-returns c = refused-reported vec-items (c .args .text .now) _ _ (c .in-Err .refusal) (c .refused .result) (c .in-Err .ensures tt .opened) (search needs) (c .refused .ensures)
+returns c = refused-reported vec-items (c .args .text .now) _ _ (c .in-Err .refusal) (c .refused .result) (c .in-Err .ensures tt) (search needs) (c .refused .ensures)

@@ -1,0 +1,7 @@
+mod Alls
+mod Cuts
+mod Runs
+mod Findings
+mod Derived
+mod Deriving
+mod Rules
