@@ -28,6 +28,7 @@ module _ (bs : List ℕ) (n : ℕ) where
         depth = ap (λ (m : Node). m .depth) (sym is);
         value = ap (λ (m : Node). m .value) (sym is);
         named = λ w. sym (ap (λ (t : Bool). t && sameBytes (getD (block-nodes bs) n no-node .name) w) (lt-ltb n (length (block-nodes bs)) h) ∙ ap (λ (m : Node). sameBytes (m .name) w) is);
+        name = ap (λ (m : Node). m .name) (sym is);
         known = ltb-true (name-number bs (node-start bs n)) (name-count bs) (and-parts (ltb (name-number bs (node-start bs n)) (name-count bs)) _ fit .0);
         place = sym (getD-counting 0 (node-count bs) n 0 there ∙ omega arith);
       }
@@ -40,5 +41,6 @@ module _ (bs : List ℕ) (n : ℕ) where
         depth = ap (λ (m : Node). m .depth) (sym is);
         value = ap (λ (m : Node). m .value) (sym is);
         named = λ w. sym (and-left (ltb n (length (block-nodes bs))) _ (le-ltb n (length (block-nodes bs)) h));
+        name = ap (λ (m : Node). m .name) (sym is);
         place = sym (let k = length-counting 0 (node-count bs) in getD-past (block-places bs) n 0 (omega arith));
       }

@@ -1,6 +1,6 @@
 -- What the functions that read a block tell one another.
 use mathlib.Core.Bool.{Bool, true, false, cond, _&&_}
-use mathlib.Core.List.{List}
+use mathlib.Core.List.{List, []}
 use mathlib.Core.Path.{_≡_}
 use Prim.Native.Nat.{ℕ, _+_, _*_, _<_, _≤_}
 use lib.Dec.{eqb, leb, ltb}
@@ -9,7 +9,7 @@ use Rattle.std.specs.declared.option.Option.{Option}
 use Rattle.std.specs.declared.option.Option.the-variants.{Some, None}
 use Rattle.std.specs.shelf.Text.{sameBytes}
 use Rattle.records.specs.Limits.{most-nodes, most-levels}
-use Rattle.records.specs.Nodes.{depth-at, value-at, named-at}
+use Rattle.records.specs.Nodes.{no-node, depth-at, value-at, named-at}
 use Rattle.blocks.specs.Layout.{leaf, most-names}
 use Rattle.blocks.specs.Places.{name-count, name-start, name-of, node-start, name-number, node-depth, node-kind, node-value, node-fits, block-nodes, block-places, all-words, good-block}
 
@@ -46,6 +46,7 @@ pub record Found (bs : List ℕ) (n at : ℕ) : Type 0 where
   pub depth : node-depth bs at ≡ depth-at (block-nodes bs) n
   pub value : node-value bs at ≡ value-at (block-nodes bs) n
   pub named : (w : List ℕ) → sameBytes (name-of bs (name-number bs at)) w ≡ named-at (block-nodes bs) n w
+  pub name : name-of bs (name-number bs at) ≡ getD (block-nodes bs) n no-node .name
   pub known : name-number bs at < name-count bs
   pub place : n ≡ getD (block-places bs) n 0
 
@@ -54,4 +55,5 @@ pub record Missing (bs : List ℕ) (n : ℕ) : Type 0 where
   pub depth : 0 ≡ depth-at (block-nodes bs) n
   pub value : None ≡ value-at (block-nodes bs) n
   pub named : (w : List ℕ) → false ≡ named-at (block-nodes bs) n w
+  pub name : [] ≡ getD (block-nodes bs) n no-node .name
   pub place : 0 ≡ getD (block-places bs) n 0

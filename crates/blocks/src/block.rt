@@ -6,6 +6,7 @@ ghost use mathlib.Core.List.{[]};
 ghost use mathlib.Core.Path.{_≡_};
 ghost use Prim.Native.Nat.{ℕ, _*_, _+_, _<_, _≤_};
 ghost use Rattle.records.specs.Limits.{most-nodes};
+ghost use Rattle.records.specs.Nodes.{no-node};
 ghost use Rattle.refusals.specs.Refusals.{number, places};
 ghost use Rattle.std.specs.Options.{Cases as BySome};
 ghost use Rattle.std.specs.Results.{Cases as ByOk};
@@ -71,6 +72,16 @@ impl<'b> BlockRecord<'b> {
             return None;
         }
         Some(self.plan.first + (NODE_BYTES * n) as u16)
+    }
+
+    // The name of node n, or nothing where there is none.
+    pub fn name_of(&self, n: usize) -> &'b [u8]
+        ensures { λ r. ⌜ now r ≡ getD (block-nodes (now (now (self .entry) .block))) n no-node .name ⌝ }
+    {
+        let Some(at) = self.find(n) else {
+            return &[];
+        };
+        self.name(node::name_number(self.block, at))
     }
 
     // Name k.

@@ -3,3 +3,5 @@ pub mod Lines
 pub mod Outlines
 pub mod Laws
 pub mod Rows
+pub mod Standing
+pub mod Piles

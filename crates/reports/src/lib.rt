@@ -3,6 +3,7 @@ mod laws;
 mod lines;
 mod outlines;
 mod rows;
+mod standing;
 mod values;
 
 pub use laws::one_report;
@@ -10,3 +11,6 @@ pub use outlines::MOST_INPUT;
 pub use outlines::outline;
 pub use rows::Names;
 pub use rows::list_record;
+pub use standing::BlockStands;
+pub use standing::TextNames;
+pub use standing::TextStands;
