@@ -1,9 +1,9 @@
 -- A list has the entry of each complete node exactly where it begins with the entries of the grammar.
 use mathlib.Core.List.{List, [], _∷_, _++_, append-assoc}
 use mathlib.Core.Path.{_≡_, refl, sym, ap, subst, _∙_}
-use Prim.Native.Nat.{ℕ, _+_, _≤_, _<_}
+use Prim.Native.Nat.{ℕ, _+_, _≤_}
 use native.Mathlib.Omega.{arith}
-use lib.ListN.{length, getD, take, drop, set, length-append, take-append-drop}
+use lib.ListN.{length, take, drop, set, length-append, take-append-drop}
 use lib.Seq.{set-getD, getD-at}
 use Rattle.std.proofs.shelf.Lists.{take-at}
 use Rattle.record_text.specs.declared.entry.Entry.{Entry}

@@ -13,7 +13,7 @@ use Rattle.lexical.proofs.NumberFacts.{number-rule}
 use Rattle.record_text.specs.declared.entry.Entry.{Entry}
 use Rattle.record_text.specs.Entries.{branch, leaf}
 use Rattle.record_text.specs.Grammar.{Item, gap, num, bytes, text, size, opening, closing, alone, Blanks, no-blank, one-more, Content, nothing, blank, element, Element, hollow, around, holding}
-use Rattle.record_text.specs.Machine.{Open, Held, blanks, elements, value, Shape, shape, opened, Tag, move-num, move, runs}
+use Rattle.record_text.specs.Machine.{Open, Held, blanks, elements, value, Shape, shape, opened, move-num, move, runs}
 use Rattle.record_text.specs.Pass.{start, Done, entry-of, done-by-tag, done-by, done-after, done, written}
 use Rattle.record_text.proofs.Sound.{after-some}
 use Rattle.record_text.proofs.Read.{some-same}

@@ -3,7 +3,7 @@ use mathlib.Core.Bool.{Bool, true, false, _&&_, false≢true}
 use mathlib.Core.List.{List}
 use mathlib.Core.Logic.{_⊎_}
 use mathlib.Core.Path.{_≡_, refl, sym, ap, subst, _∙_}
-use Prim.Native.Nat.{ℕ, _≤_, _<_}
+use Prim.Native.Nat.{ℕ}
 use native.Mathlib.Omega.{arith}
 use denote.Ref.{now}
 use lib.Dec.{leb}
@@ -27,7 +27,7 @@ use Rattle.record_text.specs.Pass.{accepts, completed, read}
 use Rattle.record_text.specs.Agree.{Agrees}
 use Rattle.record_text.specs.Passing.{outcome}
 use Rattle.record_text.specs.Texts.{text-node, text-nodes}
-use Rattle.record_text.specs.Laying.{text-of, entries-of, RecordsRead, Begins, Differs, Unlaid, misfits, limits, differs, Laid, refusal-of, Settled, Tied, Agreed}
+use Rattle.record_text.specs.Laying.{text-of, entries-of, RecordsRead, Differs, Unlaid, misfits, limits, Laid, refusal-of, Settled, Agreed}
 use Rattle.record_text.proofs.Read.{read-answers}
 use Rattle.record_text.proofs.Only.{only}
 use Rattle.record_text.proofs.Unique.{one-list}

@@ -1,8 +1,8 @@
 -- The entries of an accepted text tell proper nodes: names that are words, and values in range.
 use mathlib.Core.Bool.{true}
 use mathlib.Core.List.{List, [], _∷_, _++_, append-assoc, append-nil}
-use mathlib.Core.Path.{_≡_, refl, sym, ap, subst, _∙_}
-use Prim.Native.Nat.{ℕ, suc, _+_, _≤_}
+use mathlib.Core.Path.{_≡_, refl, sym, ap, _∙_}
+use Prim.Native.Nat.{ℕ, _+_, _≤_}
 use native.Mathlib.Omega.{arith}
 use lib.IntN.{ℤ, pos, negsuc, natAbs}
 use lib.ListN.{length, take, drop, length-append, length-map}
@@ -17,7 +17,7 @@ use Rattle.lexical.proofs.NumberFacts.{small-number}
 use Rattle.records.specs.Nodes.{ranged, next-depth, shaped}
 use Rattle.records.specs.Shapes.{shaped-from, proper-from}
 use Rattle.record_text.specs.declared.entry.Entry.{Entry}
-use Rattle.record_text.specs.Grammar.{Item, gap, num, bytes, text, size, opening, closing, alone, Content, nothing, blank, element, Element, hollow, around, holding}
+use Rattle.record_text.specs.Grammar.{Item, gap, num, bytes, text, size, opening, closing, Content, nothing, blank, element, Element, hollow, around, holding}
 use Rattle.record_text.specs.Laws.{KeepsShape}
 use Rattle.record_text.specs.Texts.{value-of, text-node, text-nodes}
 use Rattle.record_text.proofs.Complete.{text-++}
