@@ -1,4 +1,3 @@
-ghost use lib.ListN.{length};
 ghost use mathlib.Core.List.{[]};
 ghost use mathlib.Core.Path.{_≡_};
 ghost use Rattle.record_text.specs.Laying.{Agreed, Laid, Settled, entries-of, refusal-of, text-of};
