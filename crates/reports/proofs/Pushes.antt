@@ -23,3 +23,10 @@ pub whole-line : (o k p d n m h a b c e f : List ℕ) →
     a ≡ o ++ (k ++ (32 ∷ (p ++ (32 ∷ d)))) → b ≡ a ++ 32 ∷ [] → c ≡ b ++ m → m ≡ n → e ≡ c ++ 32 ∷ [] → f ≡ e ++ h →
     f ++ 10 ∷ [] ≡ o ++ line k (p ∷ d ∷ n ∷ h ∷ [])
 whole-line o k p d n m h a b c e f ea eb ec em ee ef = rw (ef, ee, ec, eb, ea, em) (regroup o k (32 ∷ []) p d n h (10 ∷ []))
+
+-- the parts of a line of two words after o
+pub short-line : (o k v a b e : List ℕ) → a ≡ o ++ k → b ≡ a ++ 32 ∷ [] → e ≡ b ++ v → e ++ 10 ∷ [] ≡ o ++ line k (v ∷ [])
+short-line o k v a b e ea eb ee = rw (ee, eb, ea) (two-parts o k (32 ∷ []) v (10 ∷ []))
+  where
+  two-parts : (o k s v z : List ℕ) → (((o ++ k) ++ s) ++ v) ++ z ≡ o ++ (k ++ (s ++ (v ++ z)))
+  two-parts o k s v z = simp append-assoc

@@ -61,6 +61,10 @@ node-lines t k (e ∷ es) = node-line t k e ++ node-lines t (k + 1) es
 abbrev pub count-line : ℕ → List ℕ
 count-line n = line (decimal n) (codes "nodes" ∷ [])
 
+-- the line of the sum of values
+abbrev pub total-line : ℤ → List ℕ
+total-line z = line (codes "total") (value-text z ∷ [])
+
 -- the line of a refusal: its number and any places that it names
 abbrev pub refused-line : ℕ → List ℕ → List ℕ
 refused-line n ps = line (codes "refused") (decimal n ∷ map decimal ps)

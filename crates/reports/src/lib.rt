@@ -2,6 +2,7 @@
 mod laws;
 mod lines;
 mod outlines;
+mod piles;
 mod rows;
 mod standing;
 mod values;
@@ -9,6 +10,8 @@ mod values;
 pub use laws::one_report;
 pub use outlines::MOST_INPUT;
 pub use outlines::outline;
+pub use piles::Asked;
+pub use piles::list_asked;
 pub use rows::Names;
 pub use rows::list_record;
 pub use standing::BlockStands;

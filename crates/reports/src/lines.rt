@@ -4,7 +4,7 @@ ghost use mathlib.Core.List.{_++_};
 ghost use mathlib.Core.Path.{_≡_};
 ghost use Prim.Native.Nat.{_+_};
 ghost use Rattle.refusals.specs.Refusals.{number, places};
-ghost use Rattle.reports.specs.Lines.{count-line, entry-value, front-text, held-text, name-text, node-line, node-lines, refused-line, row};
+ghost use Rattle.reports.specs.Lines.{count-line, entry-value, front-text, held-text, name-text, node-line, node-lines, refused-line, row, total-line};
 ghost use Rattle.std.specs.Of.Vec.{vec-items};
 ghost use Rattle.std.specs.Vec.{made};
 use crate::values::push_value;
@@ -50,7 +50,7 @@ fn push_held(heap: Global, out: &mut Vec<u8>, value: Option<i32>) -> Result<(), 
     ensures { λ r. ⌜ made r (λ _. vec-items (now (out .exit)) ≡ vec-items (now (out .entry)) ++ held-text value) ⌝ }
 {
     match value {
-        Some(value) => push_value(heap, out, value),
+        Some(value) => push_value(heap, out, i64::from(value)),
         None => out.extend_from_slice(b"-"),
     }
 }
@@ -123,6 +123,16 @@ pub fn push_count(heap: Global, out: &mut Vec<u8>, nodes: usize) -> Result<(), A
 {
     let line = format!(heap, "{nodes} nodes\n")?;
     out.extend_from_slice(line.as_bytes())
+}
+
+// Adds the line of the sum of values.
+pub fn push_total(heap: Global, out: &mut Vec<u8>, total: i64) -> Result<(), AllocError>
+    ensures { λ r. ⌜ made r (λ _. vec-items (now (out .exit)) ≡ vec-items (now (out .entry)) ++ total-line total) ⌝ }
+{
+    out.extend_from_slice(b"total")?;
+    out.extend_from_slice(b" ")?;
+    push_value(heap, out, total)?;
+    out.extend_from_slice(b"\n")
 }
 
 // Adds the line of a refusal.

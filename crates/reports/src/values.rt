@@ -8,14 +8,14 @@ use std::alloc::AllocError;
 use std::alloc::Global;
 
 // The minus of a number below zero.
-fn sign(value: i32) -> &'static str
+fn sign(value: i64) -> &'static str
     ensures { λ r. ⌜ now r ≡ sign-text value ⌝ }
 {
     if value < 0 { "-" } else { "" }
 }
 
 // Adds hundredths as a decimal with two digits after the point.
-pub fn push_value(heap: Global, out: &mut Vec<u8>, hundredths: i32) -> Result<(), AllocError>
+pub fn push_value(heap: Global, out: &mut Vec<u8>, hundredths: i64) -> Result<(), AllocError>
     ensures { λ r. ⌜ made r (λ _. vec-items (now (out .exit)) ≡ vec-items (now (out .entry)) ++ value-text hundredths) ⌝ }
 {
     let sign = sign(hundredths);
