@@ -1,5 +1,6 @@
 pub mod Pushes
 pub mod Listing
 pub mod Reporting
+pub mod Sourcing
 pub mod OnlyReport
 pub mod RecordLines

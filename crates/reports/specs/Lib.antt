@@ -5,3 +5,4 @@ pub mod Laws
 pub mod Rows
 pub mod Standing
 pub mod Piles
+pub mod Sources

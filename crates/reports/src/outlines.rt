@@ -19,7 +19,7 @@ use std::alloc::Global;
 pub const MOST_INPUT: usize = 16384;
 
 // A report that is the line of a refusal.
-fn refused(heap: Global, refusal: Refusal) -> Result<Vec<u8>, AllocError>
+pub fn refused(heap: Global, refusal: Refusal) -> Result<Vec<u8>, AllocError>
     ensures { λ r. ⌜ made r (λ v. vec-items v ≡ refused-line (number refusal) (places refusal)) ⌝ }
 {
     let mut out = Vec::new(heap);
@@ -39,7 +39,7 @@ fn listing(heap: Global, text: &[u8], nodes: &[Entry]) -> Result<Vec<u8>, AllocE
 
 // The report of a text of any length.
 fn report(heap: Global, text: &[u8]) -> Result<Vec<u8>, AllocError>
-    ensures { λ r. ⌜ made r (λ v. Reported (now (text .entry)) (vec-items v)) ⌝ }
+    ensures { λ r. ⌜ made r (λ v. Reported (listing (now (text .entry))) (now (text .entry)) (vec-items v)) ⌝ }
 {
     let none = Entry::branch(0, 0, 0, 0);
     let mut list = vec![in heap; none; MOST_NODES]?;
@@ -51,7 +51,7 @@ fn report(heap: Global, text: &[u8]) -> Result<Vec<u8>, AllocError>
 
 // The report of an input: a line a node and their count, or the line of a refusal.
 pub fn outline(heap: Global, input: &[u8]) -> Result<Vec<u8>, AllocError>
-    ensures { λ r. ⌜ made r (λ v. Outlined (now (input .entry)) (vec-items v)) ⌝ }
+    ensures { λ r. ⌜ made r (λ v. Outlined (listing (now (input .entry))) (now (input .entry)) (vec-items v)) ⌝ }
 {
     if input.len() > MOST_INPUT {
         return refused(heap, Refusal::Input);
