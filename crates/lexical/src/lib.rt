@@ -12,4 +12,5 @@ pub use laws::rounding_rule;
 pub use laws::worked_numbers;
 pub use numbers::number;
 pub use rounding::hundredths;
+pub use words::LONGEST_WORD;
 pub use words::is_word;
