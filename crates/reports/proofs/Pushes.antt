@@ -28,5 +28,5 @@ whole-line o k p d n m h a b c e f ea eb ec em ee ef = rw (ef, ee, ec, eb, ea, e
 pub short-line : (o k v a b e : List ℕ) → a ≡ o ++ k → b ≡ a ++ 32 ∷ [] → e ≡ b ++ v → e ++ 10 ∷ [] ≡ o ++ line k (v ∷ [])
 short-line o k v a b e ea eb ee = rw (ee, eb, ea) (two-parts o k (32 ∷ []) v (10 ∷ []))
   where
-  two-parts : (o k s v z : List ℕ) → (((o ++ k) ++ s) ++ v) ++ z ≡ o ++ (k ++ (s ++ (v ++ z)))
-  two-parts o k s v z = simp append-assoc
+    two-parts : (o k s v z : List ℕ) → (((o ++ k) ++ s) ++ v) ++ z ≡ o ++ (k ++ (s ++ (v ++ z)))
+    two-parts o k s v z = simp append-assoc

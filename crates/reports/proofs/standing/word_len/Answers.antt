@@ -2,7 +2,7 @@ use mathlib.Core.Bool.{Bool, true, false, cond}
 use mathlib.Core.List.{List, [], _∷_, _++_, append-nil, append-assoc}
 use mathlib.Core.Logic.{_⊎_, inl, inr}
 use mathlib.Core.Path.{_≡_, refl, sym, ap, _∙_}
-use Prim.Native.Nat.{ℕ, _+_, _<_, _≤_}
+use Prim.Native.Nat.{ℕ, _+_, _<_}
 use native.Mathlib.Omega.{arith}
 use lib.ListN.{length, getD, take, drop}
 use Rattle.std.proofs.shelf.Lists.{at-drop-more, at-drop-all, take-more}
@@ -36,8 +36,8 @@ module _ (s : List ℕ) (i : ℕ) (h : i < length s) (inv : take i s ++ word-fro
 
   goes : continues-word (kind (getD s i 0)) ≡ true → take (i + 1) s ++ word-front (drop (i + 1) s) ≡ word-front s
   goes e =
-    ap (λ l. l ++ word-front (drop (i + 1) s)) (take-more s i 0 h)
-    ∙ (append-assoc (take i s) (getD s i 0 ∷ []) (word-front (drop (i + 1) s)) ∙ (ap (λ l. take i s ++ l) (sym (next true e)) ∙ inv))
+      ap (λ l. l ++ word-front (drop (i + 1) s)) (take-more s i 0 h)
+      ∙ (append-assoc (take i s) (getD s i 0 ∷ []) (word-front (drop (i + 1) s)) ∙ (ap (λ l. take i s ++ l) (sym (next true e)) ∙ inv))
 
 pub returns-in-rest : need.returns-in-rest
 returns-in-rest c =
