@@ -15,7 +15,7 @@ use Rattle.std.specs.declared.option.Option.{Option}
 use Rattle.std.specs.declared.option.Option.the-variants.{Some, None}
 use Rattle.records.specs.Limits.{most-nodes, most-levels}
 use Rattle.records.specs.Nodes.{Node, no-node, next-depth, shaped, Shape, depth-at, named-at}
-use Rattle.layers.specs.Layers.{Kept, Selected, passes, limit-after, shown, hidden, Hides}
+use Rattle.layers.specs.Layers.{Kept, Selected, passes, limit-after, shown, without, Hides}
 use Rattle.layers.specs.Views.{under, is-none, entry-of, entries, outlined, viewed, view-nodes, view-places}
 use Rattle.records.specs.Shapes.{shaped-depth, shaped-proper, shaped-rest, proper-low}
 use Rattle.layers.specs.Viewing.{outlined-from, view-all, view-all-places}
@@ -107,28 +107,28 @@ module _ (w : List ℕ) (ns : List Node) where
       ∙ (ap (λ (x : Bool). cond x (s ∷ to-come (cond t limit (cond (named-at ns i w) d most-levels)) (i + 1)) (to-come (cond t limit (cond (named-at ns i w) d most-levels)) (i + 1))) (sym e)
       ∙ ap (λ (k : ℕ). cond b (s ∷ to-come k (i + 1)) (to-come k (i + 1))) (sym f)))
 
-  pub come-all : (items : List Shown) (limit i : ℕ) → length ns ≤ i → items ++ to-come limit i ≡ hidden w ns (entries 0 ns) → items ≡ hidden w ns (entries 0 ns)
+  pub come-all : (items : List Shown) (limit i : ℕ) → length ns ≤ i → items ++ to-come limit i ≡ without w ns (entries 0 ns) → items ≡ without w ns (entries 0 ns)
   come-all items limit i h e =
       let none : to-come limit i ≡ [] = ap (λ (l : List Node). shown w limit l (drop i (entries 0 ns))) (drop-all i ns h) in
       sym (append-nil items) ∙ ap (λ (l : List Shown). items ++ l) (sym none) ∙ e
 
-  module _ (shape : Shape ns) (items : List Shown) (e : items ≡ hidden w ns (entries 0 ns)) where
+  module _ (shape : Shape ns) (items : List Shown) (e : items ≡ without w ns (entries 0 ns)) where
     pub hide-few : length items ≤ most-nodes
     hide-few = let a = ap length e in let b = length-shown w most-levels ns (entries 0 ns) in let s = shape .0 in omega arith
 
     pub hide-outlined : outlined (length ns) 0 items ≡ true
     hide-outlined = ap (λ (l : List Shown). outlined (length ns) 0 l) e ∙ shown-outlined w (length ns) 0 0 0 most-levels ns (shape .1) (omega arith) (inl (refl, omega arith))
 
-    hide-nodes : view-nodes (length ns) items ns ≡ hidden w ns ns
+    hide-nodes : view-nodes (length ns) items ns ≡ without w ns ns
     hide-nodes =
         view-all (length ns) items ns (omega arith) ∙ ap (map (viewed ns)) e ∙ map-shown (viewed ns) w most-levels ns (entries 0 ns)
-        ∙ ap (λ (l : List Node). hidden w ns l) (view-entries ns 0 ns (λ k l. ap (λ (j : ℕ). getD ns j no-node) (omega arith)))
+        ∙ ap (λ (l : List Node). without w ns l) (view-entries ns 0 ns (λ k l. ap (λ (j : ℕ). getD ns j no-node) (omega arith)))
 
-    hide-places : (ps : List ℕ) → length ps ≡ length ns → view-places (length ns) items ns ps ≡ hidden w ns ps
+    hide-places : (ps : List ℕ) → length ps ≡ length ns → view-places (length ns) items ns ps ≡ without w ns ps
     hide-places ps level =
         let f : Shown → ℕ = λ s. getD ps (s .at) 0 in
         view-all-places (length ns) items ns ps (omega arith) ∙ ap (map f) e ∙ map-shown f w most-levels ns (entries 0 ns)
-        ∙ ap (λ (l : List ℕ). hidden w ns l) (places-entries ps 0 ns ps level (λ k l. ap (λ (j : ℕ). getD ps j 0) (omega arith)))
+        ∙ ap (λ (l : List ℕ). without w ns l) (places-entries ps 0 ns ps level (λ k l. ap (λ (j : ℕ). getD ps j 0) (omega arith)))
 
     pub hides : (ps : List ℕ) → length ps ≡ length ns → Hides w ns ps (view-nodes (length ns) items ns) (view-places (length ns) items ns ps)
     hides ps level =
@@ -139,10 +139,10 @@ module _ (w : List ℕ) (ns : List Node) where
           kept-places = subst (Selected (Kept w ns) 0 ps) (sym (hide-places ps level)) (hidden-selects w ns ps shape level);
         }
 
-  module _ (items items′ : List Shown) (limit limit′ i : ℕ) (inv : items ++ to-come limit i ≡ hidden w ns (entries 0 ns)) where
-    pub step-skip : items′ ≡ items → to-come limit i ≡ to-come limit′ (i + 1) → items′ ++ to-come limit′ (i + 1) ≡ hidden w ns (entries 0 ns)
+  module _ (items items′ : List Shown) (limit limit′ i : ℕ) (inv : items ++ to-come limit i ≡ without w ns (entries 0 ns)) where
+    pub step-skip : items′ ≡ items → to-come limit i ≡ to-come limit′ (i + 1) → items′ ++ to-come limit′ (i + 1) ≡ without w ns (entries 0 ns)
     step-skip e f = ap (λ (l : List Shown). l ++ to-come limit′ (i + 1)) e ∙ ap (λ (l : List Shown). items ++ l) (sym f) ∙ inv
 
-    pub step-push : (s : Shown) → items′ ≡ items ++ s ∷ [] → to-come limit i ≡ s ∷ to-come limit′ (i + 1) → items′ ++ to-come limit′ (i + 1) ≡ hidden w ns (entries 0 ns)
+    pub step-push : (s : Shown) → items′ ≡ items ++ s ∷ [] → to-come limit i ≡ s ∷ to-come limit′ (i + 1) → items′ ++ to-come limit′ (i + 1) ≡ without w ns (entries 0 ns)
     step-push s e f =
         ap (λ (l : List Shown). l ++ to-come limit′ (i + 1)) e ∙ append-assoc items (s ∷ []) (to-come limit′ (i + 1)) ∙ ap (λ (l : List Shown). items ++ l) (sym f) ∙ inv

@@ -14,7 +14,7 @@ use Rattle.std.specs.shelf.Text.{sameBytes}
 use Rattle.records.specs.Limits.{most-levels}
 use Rattle.records.specs.Nodes.{Node, no-node, Shape, depth-at, named-at}
 use Rattle.records.specs.Shapes.{proper-at, proper-low}
-use Rattle.layers.specs.Layers.{Beneath, Kept, Taken, Selected, nothing, keeps, leaves, shown, hidden, run, cut-part}
+use Rattle.layers.specs.Layers.{Beneath, Kept, Taken, Selected, nothing, keeps, leaves, shown, without, run, cut-part}
 
 -- nodes ms are what is left of ns from i on
 abbrev pub Suffix : List Node → ℕ → List Node → Type 0
@@ -162,7 +162,7 @@ all-low ns s k h = proper-low (getD ns k no-node) (proper-at 0 ns k (s .1) h)
 whole : (ns : List Node) → Suffix ns 0 ns
 whole ns = (omega arith, λ k h. ap (λ (j : ℕ). getD ns j no-node) (omega arith))
 
-pub hidden-selects : {X : Type 0} (w : List ℕ) (ns : List Node) (xs : List X) → Shape ns → length xs ≡ length ns → Selected (Kept w ns) 0 xs (hidden w ns xs)
+pub hidden-selects : {X : Type 0} (w : List ℕ) (ns : List Node) (xs : List X) → Shape ns → length xs ≡ length ns → Selected (Kept w ns) 0 xs (without w ns xs)
 hidden-selects w ns xs s e = shown-selects w ns (all-low ns s) 0 most-levels ns xs e (whole ns) (no-limit w ns)
 
 -- the cut at n

@@ -45,8 +45,8 @@ shown w limit [] xs = []
 shown w limit (n ∷ ns) [] = []
 shown w limit (n ∷ ns) (x ∷ xs) = cond (passes w limit n) (x ∷ shown w (limit-after w limit n) ns xs) (shown w (limit-after w limit n) ns xs)
 
-abbrev pub hidden : {X : Type 0} → List ℕ → List Node → List X → List X
-hidden w ns xs = shown w most-levels ns xs
+abbrev pub without : {X : Type 0} → List ℕ → List Node → List X → List X
+without w ns xs = shown w most-levels ns xs
 
 -- the elements beside the nodes, from the first on, that are deeper than d
 abbrev pub run : {X : Type 0} → ℕ → List Node → List X → List X
@@ -67,8 +67,8 @@ cut-nodes n ns = map (lowered (depth-at ns n)) (cut-part n ns ns)
 
 -- What a layer shows, by both: nodes ns and places ps below, ns′ and ps′ here.
 pub record Hides (w : List ℕ) (ns : List Node) (ps : List ℕ) (ns′ : List Node) (ps′ : List ℕ) : Type 0 where
-  pub nodes : ns′ ≡ hidden w ns ns
-  pub places : ps′ ≡ hidden w ns ps
+  pub nodes : ns′ ≡ without w ns ns
+  pub places : ps′ ≡ without w ns ps
   pub kept : Selected (Kept w ns) 0 ns ns′
   pub kept-places : Selected (Kept w ns) 0 ps ps′
 

@@ -6,7 +6,7 @@ use Rattle.std.specs.declared.option.Option.{Option as Maybe}
 use Rattle.std.specs.declared.option.Option.the-variants.{Some, None}
 use Rattle.records.specs.Nodes.{Node}
 use Rattle.records.specs.Sums.{total-of}
-use Rattle.layers.specs.Layers.{hidden, cut-nodes, cut-part}
+use Rattle.layers.specs.Layers.{without, cut-nodes, cut-part}
 use Rattle.reports.specs.Lines.{total-line}
 use Rattle.reports.specs.Rows.{record-listing}
 
@@ -16,7 +16,7 @@ summed f t ns ps = record-listing f ns ps ++ cond t (total-line (total-of ns)) [
 
 -- without the nodes of the name w and all beneath them (a w that is no word hides nothing)
 abbrev pub with-hidden : (ℕ → List ℕ) → Bool → List ℕ → List Node → List ℕ → List ℕ
-with-hidden f t w ns ps = summed f t (hidden w ns ns) (hidden w ns ps)
+with-hidden f t w ns ps = summed f t (without w ns ns) (without w ns ps)
 
 -- only a node and what lies beneath it, or all
 abbrev pub with-cut : (ℕ → List ℕ) → Bool → List ℕ → Maybe ℕ → List Node → List ℕ → List ℕ

@@ -2,7 +2,7 @@
 ghost use lib.Dec.{ltb};
 ghost use mathlib.Core.Bool.{cond, false, true};
 ghost use mathlib.Core.Path.{_≡_};
-ghost use Rattle.layers.specs.Layers.{Hides, hidden};
+ghost use Rattle.layers.specs.Layers.{Hides, without};
 ghost use Rattle.layers.specs.Views.{entries, view-nodes, view-places};
 ghost use Rattle.records.specs.Limits.{most-levels};
 ghost use Rattle.records.specs.Nodes.{depth-at, named-at};
@@ -49,7 +49,7 @@ fn pass<R: Record>(below: &R, n: usize, name: &[u8], limit: usize) -> Passage
 
 // The nodes that are left.
 fn kept<R: Record>(heap: Global, below: &R, name: &[u8]) -> Result<Vec<Shown>, AllocError>
-    ensures { λ r. ⌜ made r (λ v. vec-items v ≡ hidden (now (name .entry)) (nodes (now (below .entry))) (entries 0 (nodes (now (below .entry))))) ⌝ }
+    ensures { λ r. ⌜ made r (λ v. vec-items v ≡ without (now (name .entry)) (nodes (now (below .entry))) (entries 0 (nodes (now (below .entry))))) ⌝ }
 {
     let mut shown = Vec::new(heap);
     let mut limit = MOST_LEVELS;
