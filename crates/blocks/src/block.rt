@@ -32,7 +32,8 @@ pub struct BlockRecord<'b> {
     ghost good: { good-block (now block) ≡ true },
     ghost table: { (k : ℕ) → k < name-count (now block) → getD (plan .starts) k 0 ≡ name-start (now block) k },
     ghost begins: { plan .first ≡ node-start (now block) 0 },
-    // Before the first node stand two counts, and names of at most 256 bytes with their lengths.
+    // A loose bound that keeps places within 16 bits: before the first node stand two counts and the names, each a length byte and so
+    // at most 256 bytes.
     ghost near: { plan .first ≤ 4 + 256 * most-names },
     ghost counts: { plan .count ≡ length (block-nodes (now block)) },
     ghost few: { plan .count ≤ most-nodes },
@@ -100,7 +101,7 @@ pub impl<'b> Record for BlockRecord<'b> as BlockIsRecord {
 
     ghost shape = { λ x. block-shape (now (x .block)) (x .good) };
 
-    ghost level = { λ x. block-level (now (x .block)) };
+    ghost placed = { λ x. block-level (now (x .block)) };
 
     fn count(&self) -> usize {
         self.plan.count

@@ -65,7 +65,7 @@ lowered d n = record { name = n .name; depth = n .depth - d; value = n .value }
 abbrev pub cut-nodes : ℕ → List Node → List Node
 cut-nodes n ns = map (lowered (depth-at ns n)) (cut-part n ns ns)
 
--- What a layer shows, by both: nodes ns and places ps below, ns′ and ps′ here.
+-- What a layer shows, by the functions and by the relations: nodes ns and places ps below, ns′ and ps′ here.
 pub record Hides (w : List ℕ) (ns : List Node) (ps : List ℕ) (ns′ : List Node) (ps′ : List ℕ) : Type 0 where
   pub nodes : ns′ ≡ without w ns ns
   pub places : ps′ ≡ without w ns ps

@@ -13,7 +13,7 @@ use Rattle.records.specs.Nodes.{Node, no-node, depth-at, value-at, named-at}
 use Rattle.layers.specs.Layers.{cut-part}
 use Rattle.layers.specs.declared.view.Shown.{Shown}
 
--- the deepest that the entry after s may lie
+-- the deepest that the entry after one at depth d may lie
 abbrev pub under : Bool → ℕ → ℕ
 under inner d = cond inner (d + 1) d
 
@@ -56,7 +56,7 @@ abbrev pub entries : ℕ → List Node → List Shown
 entries i [] = []
 entries i (n ∷ ns) = entry-of i n ∷ entries (i + 1) ns
 
--- an entry shown d higher up
+-- an entry with its depth lowered by d
 abbrev pub raised : ℕ → Shown → Shown
 raised d s = record { at = s .at; depth = s .depth - d; inner = s .inner }
 

@@ -78,7 +78,7 @@ pub impl<'r, R: Record> Record for View<'r, R> as ViewRecord {
 
     ghost shape = { λ v. view-shape (v .reach) (vec-items (v .shown)) (R·Record .nodes (now (v .below))) (R·Record .shape (now (v .below))) (v .few) (v .ok) };
 
-    ghost level = { λ v. view-level (v .reach) (vec-items (v .shown)) (R·Record .nodes (now (v .below))) (R·Record .places (now (v .below))) };
+    ghost placed = { λ v. view-level (v .reach) (vec-items (v .shown)) (R·Record .nodes (now (v .below))) (R·Record .places (now (v .below))) };
 
     fn count(&self) -> usize {
         self.len()

@@ -1,8 +1,8 @@
 // Prints the nodes of the record on standard input, or why it is none. The arguments, in any order, say what to print:
 //   block      the input is a gate block, not record text
-//   cut N      only node N and what lies beneath it
-//   hide NAME  no nodes of that name and nothing beneath them
-//   total      the sum of the values too
+//   cut N      only node N of the record and what lies beneath it
+//   hide NAME  of what is shown, no nodes of that name and nothing beneath them
+//   total      the sum of the values that are shown, too
 mod command;
 
 use blocks::MOST_BLOCK;

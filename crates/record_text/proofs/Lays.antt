@@ -27,7 +27,7 @@ use Rattle.record_text.specs.Pass.{accepts, completed, read}
 use Rattle.record_text.specs.Agree.{Agrees}
 use Rattle.record_text.specs.Passing.{outcome}
 use Rattle.record_text.specs.Texts.{text-node, text-nodes}
-use Rattle.record_text.specs.Laying.{text-of, entries-of, RecordsRead, Differs, Unlaid, misfits, limits, Laid, refusal-of, Settled, Agreed}
+use Rattle.record_text.specs.Laying.{Begins, text-of, entries-of, RecordsRead, Differs, Unlaid, misfits, limits, Laid, refusal-of, Settled, Agreed}
 use Rattle.record_text.proofs.Read.{read-answers}
 use Rattle.record_text.proofs.Only.{only}
 use Rattle.record_text.proofs.Unique.{one-list}
@@ -154,3 +154,8 @@ pub laid-entries : (t : List ℕ) (l : List Entry) (r : Result (Unit {0}) Refusa
     take (length es) l ≡ es → (text-of y ≡ t) × (entries-of y ≡ es)
 laid-entries t l (Ok u) x y (fs, q, k, a, b) s es r e = (a, b ∙ one-list t fs es (q .0, q .1 .0, q .2) (r .0, r .1 .0, r .2))
 laid-entries t l (Err f) x y h s es r e = let q : _≡_ {A = Option Refusal} (Some f) None = s .0 (es, r, e) in unlike cc
+
+-- where it does not, the record is as it was
+pub laid-nothing : (t : List ℕ) (l : List Entry) (r : Result (Unit {0}) Refusal) (x y : TextRecord) → Laid t l r x y → (Begins t l → ⊥) → y ≡ x
+laid-nothing t l (Ok u) x y (fs, q, k, a, b) n = absurd (n (fs, q, k))
+laid-nothing t l (Err f) x y h n = h .1

@@ -8,8 +8,8 @@ pub mod Texts
 pub mod Laying
 pub mod Parts
 pub mod Laws
--- A functional model of the reader, and how the code follows it. The contracts of `open` and `lay` do not cite it; proofs/ tie it to
--- the grammar.
+-- A functional model of the reader, and how the code follows it. The contracts do not cite it; a text record keeps its invariant by
+-- it, and `records_read` ties that to the grammar.
 pub mod Machine
 pub mod Pass
 pub mod Agree

@@ -3,7 +3,6 @@ mod limits;
 mod record;
 mod totals;
 
-pub use limits::GREATEST_VALUE;
 pub use limits::MOST_LEVELS;
 pub use limits::MOST_NODES;
 pub use record::Record;

@@ -16,7 +16,7 @@ pub trait Record {
     ghost shape: { (x : Self) → Shape (nodes x) };
 
     // Every node has a place.
-    ghost level: { (x : Self) → length (places x) ≡ length (nodes x) };
+    ghost placed: { (x : Self) → length (places x) ≡ length (nodes x) };
 
     // How many nodes there are.
     fn count(&self) -> usize

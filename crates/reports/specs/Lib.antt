@@ -1,4 +1,4 @@
--- The reports of the programs. To be read from top to bottom: what the contract of `outline` rests on.
+-- The reports of the programs. To be read from top to bottom: what the contracts rest on.
 pub mod Lines
 pub mod Outlines
 pub mod Laws

@@ -14,7 +14,8 @@ use Rattle.reports.specs.Rows.{record-listing}
 abbrev pub summed : (ℕ → List ℕ) → Bool → List Node → List ℕ → List ℕ
 summed f t ns ps = record-listing f ns ps ++ cond t (total-line (total-of ns)) []
 
--- without the nodes of the name w and all beneath them (a w that is no word hides nothing)
+-- without the nodes of the name w and all beneath them (a w that is no word hides nothing; `hiding_keeps` and `cutting_takes` of the
+-- layers say what `without` and the cuts select)
 abbrev pub with-hidden : (ℕ → List ℕ) → Bool → List ℕ → List Node → List ℕ → List ℕ
 with-hidden f t w ns ps = summed f t (without w ns ns) (without w ns ps)
 

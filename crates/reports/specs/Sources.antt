@@ -20,6 +20,6 @@ text-listing t w c x es = with-cut (text-name x) t w c (text-nodes x es) (text-p
 abbrev pub block-listing : Bool → List ℕ → Maybe ℕ → List ℕ → List ℕ
 block-listing t w c b = with-cut (λ p. getD (block-nodes b) p no-node .name) t w c (block-nodes b) (block-places b)
 
--- the report of a block, or the refusal of what is none
+-- the report of a block, or the refusal of what is none (`block_rule` of the blocks says what a good block is)
 abbrev pub block-report : Bool → List ℕ → Maybe ℕ → List ℕ → List ℕ
 block-report t w c b = cond (good-block b) (block-listing t w c b) (refused-line 5 [])

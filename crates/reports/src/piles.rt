@@ -14,8 +14,8 @@ use records::total;
 use std::alloc::AllocError;
 use std::alloc::Global;
 
-// What is asked of a report: to show only node `cut` and what lies beneath it, to leave out the nodes of the name `hide` (no word
-// hides nothing), and to add the sum of the values.
+// What is asked of a report: to show only node `cut` of the record and what lies beneath it; to leave out of that the nodes of the
+// name `hide` and what lies beneath them (bytes that are no word hide nothing); and to add the sum of the values that are shown.
 #[derive(Clone, Copy)]
 pub struct Asked<'w> {
     pub cut: Option<usize>,

@@ -16,7 +16,7 @@ use records::Record;
 use std::alloc::AllocError;
 use std::alloc::Global;
 
-// Whether a node is shown, and the depth below which nodes after it are left out.
+// Whether a node is shown, and a depth: nodes after it that are deeper are left out.
 #[derive(Clone, Copy)]
 pub struct Passage {
     pub shows: bool,

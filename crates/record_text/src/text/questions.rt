@@ -61,7 +61,7 @@ pub impl<'t, 'n> Record for TextRecord<'t, 'n> as TextIsRecord {
 
     ghost shape = { λ x. text-shape (now (x .text)) (x .count) (now (x .list)) (x .few) (x .shape) };
 
-    ghost level = { λ x. text-level (text-of x) (entries-of x) };
+    ghost placed = { λ x. text-level (text-of x) (entries-of x) };
 
     fn count(&self) -> usize {
         self.len()

@@ -36,4 +36,4 @@ returns g c =
     let count : c .count-reach .result ≡ length ns = c .count-reach .ensures in
     let s = g .R·Record .shape (c .args .below .now) in
     subst (λ (r : ℕ). Cuts n ns ps (view-nodes r items ns) (view-places r items ns ps)) (sym count)
-    (subst (λ (l : List Shown). Cuts n ns ps (view-nodes (length ns) l ns) (view-places (length ns) l ns ps)) (sym e) (cuts n ns s ps (g .R·Record .level (c .args .below .now))))
+    (subst (λ (l : List Shown). Cuts n ns ps (view-nodes (length ns) l ns) (view-places (length ns) l ns ps)) (sym e) (cuts n ns s ps (g .R·Record .placed (c .args .below .now))))

@@ -30,4 +30,4 @@ returns g c =
     let e : items ≡ without key ns (entries 0 ns) = c .in-Continue-shown .ensures tt in
     let n : c .count-reach .result ≡ length ns = c .count-reach .ensures in
     let s = g .R·Record .shape (c .args .below .now) in
-    subst (λ (r : ℕ). Hides key ns ps (view-nodes r items ns) (view-places r items ns ps)) (sym n) (hides key ns s items e ps (g .R·Record .level (c .args .below .now)))
+    subst (λ (r : ℕ). Hides key ns ps (view-nodes r items ns) (view-places r items ns ps)) (sym n) (hides key ns s items e ps (g .R·Record .placed (c .args .below .now)))
