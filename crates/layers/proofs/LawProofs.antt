@@ -117,8 +117,7 @@ cut-whole [] (p ∷ ps) s e h = absurd (omega arith)
 cut-whole (n ∷ ns) [] s e h = absurd (omega arith)
 cut-whole (n ∷ ns) (p ∷ ps) s e h =
     let top : n .depth ≡ 0 = omega (arith, shaped-depth 0 n ns (s .1)) in
-    let deep : (k : ℕ) → k < length ns → n .depth < depth-at ns k = λ k l. let q = h (suc k) (omega arith) (omega arith) in omega (arith, q) in
-    (
+    let deep : (k : ℕ) → k < length ns → n .depth < depth-at ns k = λ k l. let q = h (suc k) (omega arith) (omega arith) in omega (arith, q) in (
       ap (λ (l : List Node). map (lowered (n .depth)) (n ∷ l)) (run-all ns ns (n .depth) refl deep) ∙ lowered-none (n ∷ ns) (n .depth) top,
       ap (λ (l : List ℕ). p ∷ l) (run-all ns ps (n .depth) (omega arith) deep),
     )

@@ -4,9 +4,9 @@ use mathlib.Core.Path.{_≡_, sym, ap, _∙_}
 use Prim.Native.Nat.{ℕ, suc, _+_, _-_, _≤_, _<_}
 use native.Mathlib.Omega.{arith}
 use Rattle.records.specs.Nodes.{Node}
-use Rattle.reports.specs.Rows.{record-line, record-lines}
+use Rattle.reports.specs.Rows.{Naming, record-line, record-lines}
 
-module _ (f : ℕ → List ℕ) (ns : List Node) (ps : List ℕ) (m i : ℕ) (o all : List ℕ) (inv : o ++ record-lines f ns ps i (m - i) ≡ all) where
+module _ (f : Naming) (ns : List Node) (ps : List ℕ) (m i : ℕ) (o all : List ℕ) (inv : o ++ record-lines f ns ps i (m - i) ≡ all) where
   -- one more line
   pub one-line-more : i < m → (o′ : List ℕ) → o′ ≡ o ++ record-line f ns ps i → o′ ++ record-lines f ns ps (i + 1) (m - (i + 1)) ≡ all
   one-line-more h o′ e =

@@ -8,18 +8,18 @@ use Rattle.records.specs.Nodes.{Node}
 use Rattle.records.specs.Sums.{total-of}
 use Rattle.layers.specs.Layers.{without, cut-nodes, cut-part}
 use Rattle.reports.specs.Lines.{total-line}
-use Rattle.reports.specs.Rows.{record-listing}
+use Rattle.reports.specs.Rows.{Naming, record-listing}
 
 -- all nodes and how many there are, and if t says so the sum of their values
-abbrev pub summed : (ℕ → List ℕ) → Bool → List Node → List ℕ → List ℕ
-summed f t ns ps = record-listing f ns ps ++ cond t (total-line (total-of ns)) []
+abbrev pub summed : Naming → Bool → List Node → List ℕ → List ℕ
+summed g t ns ps = record-listing g ns ps ++ cond t (total-line (total-of ns)) []
 
 -- without the nodes of the name w and all beneath them (a w that is no word hides nothing; `hiding_keeps` and `cutting_takes` of the
 -- layers say what `without` and the cuts select)
-abbrev pub with-hidden : (ℕ → List ℕ) → Bool → List ℕ → List Node → List ℕ → List ℕ
-with-hidden f t w ns ps = summed f t (without w ns ns) (without w ns ps)
+abbrev pub with-hidden : Naming → Bool → List ℕ → List Node → List ℕ → List ℕ
+with-hidden g t w ns ps = summed g t (without w ns ns) (without w ns ps)
 
 -- only a node and what lies beneath it, or all
-abbrev pub with-cut : (ℕ → List ℕ) → Bool → List ℕ → Maybe ℕ → List Node → List ℕ → List ℕ
-with-cut f t w None ns ps = with-hidden f t w ns ps
-with-cut f t w (Some n) ns ps = with-hidden f t w (cut-nodes n ns) (cut-part n ns ps)
+abbrev pub with-cut : Naming → Bool → List ℕ → Maybe ℕ → List Node → List ℕ → List ℕ
+with-cut g t w None ns ps = with-hidden g t w ns ps
+with-cut g t w (Some n) ns ps = with-hidden g t w (cut-nodes n ns) (cut-part n ns ps)

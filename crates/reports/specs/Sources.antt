@@ -2,23 +2,21 @@
 use mathlib.Core.Bool.{Bool, cond}
 use mathlib.Core.List.{List, []}
 use Prim.Native.Nat.{ℕ}
-use lib.ListN.{getD}
 use Rattle.std.specs.declared.option.Option.{Option as Maybe}
-use Rattle.records.specs.Nodes.{no-node}
 use Rattle.blocks.specs.Places.{good-block, block-nodes, block-places}
 use Rattle.record_text.specs.declared.entry.Entry.{Entry}
 use Rattle.record_text.specs.Texts.{text-nodes, text-places}
 use Rattle.reports.specs.Lines.{refused-line}
-use Rattle.reports.specs.Standing.{text-name}
+use Rattle.reports.specs.Rows.{own}
 use Rattle.reports.specs.Piles.{with-cut}
 
 -- what is said of the record with the entries es of the text x
 abbrev pub text-listing : Bool → List ℕ → Maybe ℕ → List ℕ → List Entry → List ℕ
-text-listing t w c x es = with-cut (text-name x) t w c (text-nodes x es) (text-places es)
+text-listing t w c x es = with-cut own t w c (text-nodes x es) (text-places es)
 
 -- what is said of the block b
 abbrev pub block-listing : Bool → List ℕ → Maybe ℕ → List ℕ → List ℕ
-block-listing t w c b = with-cut (λ p. getD (block-nodes b) p no-node .name) t w c (block-nodes b) (block-places b)
+block-listing t w c b = with-cut own t w c (block-nodes b) (block-places b)
 
 -- the report of a block, or the refusal of what is none (`block_rule` of the blocks says what a good block is)
 abbrev pub block-report : Bool → List ℕ → Maybe ℕ → List ℕ → List ℕ

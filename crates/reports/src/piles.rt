@@ -2,6 +2,7 @@
 ghost use denote.Ref.{now};
 ghost use mathlib.Core.Path.{_≡_};
 ghost use Rattle.reports.specs.Piles.{summed, with-cut, with-hidden};
+ghost use Rattle.reports.specs.Rows.{found};
 ghost use Rattle.std.specs.Of.Vec.{vec-items};
 ghost use Rattle.std.specs.Vec.{made};
 use crate::lines::push_total;
@@ -30,7 +31,7 @@ fn list_summed<R: Record, N: Names>(
     names: &N,
     with_total: bool,
 ) -> Result<Vec<u8>, AllocError>
-    ensures { λ r. ⌜ made r (λ v. vec-items v ≡ summed (N·Names .stands (now (names .entry))) «with_total» (nodes (now (source .entry))) (places (now (source .entry)))) ⌝ }
+    ensures { λ r. ⌜ made r (λ v. vec-items v ≡ summed (found (N·Names .stands (now (names .entry)))) «with_total» (nodes (now (source .entry))) (places (now (source .entry)))) ⌝ }
 {
     let mut out = list_record(heap, source, names)?;
     if with_total {
@@ -46,7 +47,7 @@ fn list_hidden<R: Record, N: Names>(
     names: &N,
     asked: Asked<'_>,
 ) -> Result<Vec<u8>, AllocError>
-    ensures { λ r. ⌜ made r (λ v. vec-items v ≡ with-hidden (N·Names .stands (now (names .entry))) (asked .entry .total) (now (asked .entry .hide)) (nodes (now (source .entry))) (places (now (source .entry)))) ⌝ }
+    ensures { λ r. ⌜ made r (λ v. vec-items v ≡ with-hidden (found (N·Names .stands (now (names .entry)))) (asked .entry .total) (now (asked .entry .hide)) (nodes (now (source .entry))) (places (now (source .entry)))) ⌝ }
 {
     let view = View::hide(heap, source, asked.hide)?;
     list_summed(heap, &view, names, asked.total)
@@ -59,7 +60,7 @@ pub fn list_asked<R: Record, N: Names>(
     names: &N,
     asked: Asked<'_>,
 ) -> Result<Vec<u8>, AllocError>
-    ensures { λ r. ⌜ made r (λ v. vec-items v ≡ with-cut (N·Names .stands (now (names .entry))) (asked .entry .total) (now (asked .entry .hide)) (asked .entry .cut) (nodes (now (source .entry))) (places (now (source .entry)))) ⌝ }
+    ensures { λ r. ⌜ made r (λ v. vec-items v ≡ with-cut (found (N·Names .stands (now (names .entry)))) (asked .entry .total) (now (asked .entry .hide)) (asked .entry .cut) (nodes (now (source .entry))) (places (now (source .entry)))) ⌝ }
 {
     let Some(n) = asked.cut else {
         return list_hidden(heap, source, names, asked);

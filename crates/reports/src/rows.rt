@@ -6,7 +6,7 @@ ghost use mathlib.Core.List.{List, _++_};
 ghost use mathlib.Core.Path.{_≡_};
 ghost use Prim.Native.Nat.{ℕ};
 ghost use Rattle.records.specs.Nodes.{named-at};
-ghost use Rattle.reports.specs.Rows.{record-line, record-lines, record-listing};
+ghost use Rattle.reports.specs.Rows.{found, record-line, record-lines, record-listing};
 ghost use Rattle.std.specs.Of.Vec.{vec-items};
 ghost use Rattle.std.specs.Vec.{made};
 use crate::lines::Front;
@@ -40,7 +40,7 @@ fn push_record_line<R: Record, N: Names>(
     names: &N,
     n: usize,
 ) -> Result<(), AllocError>
-    ensures { λ r. ⌜ made r (λ _. vec-items (now (out .exit)) ≡ vec-items (now (out .entry)) ++ record-line (N·Names .stands (now (names .entry))) (nodes (now (source .entry))) (places (now (source .entry))) n) ⌝ }
+    ensures { λ r. ⌜ made r (λ _. vec-items (now (out .exit)) ≡ vec-items (now (out .entry)) ++ record-line (found (N·Names .stands (now (names .entry)))) (nodes (now (source .entry))) (places (now (source .entry))) n) ⌝ }
 {
     let place = source.place(n);
     let front = Front {
@@ -59,7 +59,7 @@ fn push_record<R: Record, N: Names>(
     source: &R,
     names: &N,
 ) -> Result<(), AllocError>
-    ensures { λ r. ⌜ made r (λ _. vec-items (now (out .exit)) ≡ vec-items (now (out .entry)) ++ record-lines (N·Names .stands (now (names .entry))) (nodes (now (source .entry))) (places (now (source .entry))) 0 (length (nodes (now (source .entry))))) ⌝ }
+    ensures { λ r. ⌜ made r (λ _. vec-items (now (out .exit)) ≡ vec-items (now (out .entry)) ++ record-lines (found (N·Names .stands (now (names .entry)))) (nodes (now (source .entry))) (places (now (source .entry))) 0 (length (nodes (now (source .entry))))) ⌝ }
 {
     for n in 0..source.count() {
         push_record_line(heap, out, source, names, n)?;
@@ -73,7 +73,7 @@ pub fn list_record<R: Record, N: Names>(
     source: &R,
     names: &N,
 ) -> Result<Vec<u8>, AllocError>
-    ensures { λ r. ⌜ made r (λ v. vec-items v ≡ record-listing (N·Names .stands (now (names .entry))) (nodes (now (source .entry))) (places (now (source .entry)))) ⌝ }
+    ensures { λ r. ⌜ made r (λ v. vec-items v ≡ record-listing (found (N·Names .stands (now (names .entry)))) (nodes (now (source .entry))) (places (now (source .entry)))) ⌝ }
 {
     let mut out = Vec::new(heap);
     push_record(heap, &mut out, source, names)?;

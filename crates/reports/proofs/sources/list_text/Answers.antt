@@ -15,4 +15,4 @@ returns c r =
     let y = c .lay .last .self in
     let a = c .args .asked in
     let k = laid-entries x l (c .lay .result) (c .empty-record .result) y (c .lay .ensures .laid) (c .lay .ensures .settled) l r (take-all (length l) l (omega arith)) in
-    text-laid vec-items (c .list-asked .result) (a .total) (now (a .hide)) (a .cut) x (text-of y) l (entries-of y) (k .0) (k .1) (c .list-asked .ensures)
+    text-laid vec-items (c .list-asked .result) (a .total) (now (a .hide)) (a .cut) x (text-of y) l (entries-of y) r (k .0) (k .1) (c .list-asked .ensures)

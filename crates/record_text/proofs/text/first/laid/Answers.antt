@@ -12,9 +12,9 @@ returns c =
     let y = c .lay .last .self in
     record {
       part = λ es r e.
-        let k = laid-entries t l (c .lay .result) x y (c .lay .ensures .laid) (c .lay .ensures .settled) es r e in
-        ap (λ u. part-of u (entries-of y) 0) (k .0) ∙ ap (λ m. part-of t m 0) (k .1);
+          let k = laid-entries t l (c .lay .result) x y (c .lay .ensures .laid) (c .lay .ensures .settled) es r e in
+          ap (λ u. part-of u (entries-of y) 0) (k .0) ∙ ap (λ m. part-of t m 0) (k .1);
       none = λ n.
-        let k = laid-nothing t l (c .lay .result) x y (c .lay .ensures .laid) n in
-        ap (λ z. part-of (text-of z) (entries-of z) 0) k ∙ ap (λ m. part-of (text-of x) m 0) (c .empty-record .ensures .entries);
+          let k = laid-nothing t l (c .lay .result) x y (c .lay .ensures .laid) n in
+          ap (λ z. part-of (text-of z) (entries-of z) 0) k ∙ ap (λ m. part-of (text-of x) m 0) (c .empty-record .ensures .entries);
     }
