@@ -61,8 +61,8 @@ pub fn outline_text(heap: Global, input: &[u8], asked: Asked<'_>) -> Result<Vec<
     report_text(heap, input, asked)
 }
 
-// The report that is asked of a gate block, or the line of a refusal.
-pub fn outline_block(heap: Global, block: &[u8], asked: Asked<'_>) -> Result<Vec<u8>, AllocError>
+// The report of a gate block.
+fn report_block(heap: Global, block: &[u8], asked: Asked<'_>) -> Result<Vec<u8>, AllocError>
     ensures { λ r. ⌜ made r (λ v. vec-items v ≡ block-report (asked .entry .total) (now (asked .entry .hide)) (asked .entry .cut) (now (block .entry))) ⌝ }
 {
     let mut record = BlockRecord::empty();
@@ -70,4 +70,11 @@ pub fn outline_block(heap: Global, block: &[u8], asked: Asked<'_>) -> Result<Vec
         Ok(()) => list_asked(heap, &record, &record, asked),
         Err(refusal) => refused(heap, refusal),
     }
+}
+
+// The report that is asked of a gate block, or the line of a refusal.
+pub fn outline_block(heap: Global, block: &[u8], asked: Asked<'_>) -> Result<Vec<u8>, AllocError>
+    ensures { λ r. ⌜ made r (λ v. vec-items v ≡ block-report (asked .entry .total) (now (asked .entry .hide)) (asked .entry .cut) (now (block .entry))) ⌝ }
+{
+    report_block(heap, block, asked)
 }

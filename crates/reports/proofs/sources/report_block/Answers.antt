@@ -1,7 +1,7 @@
 use denote.Ref.{now}
 use Rattle.std.specs.Of.Vec.{vec-items}
 use Rattle.reports.proofs.Sourcing.{block-taken}
-use Rattle.reports.proofs.sources.outline_block.Needs as need
+use Rattle.reports.proofs.sources.report_block.Needs as need
 
 pub returns-in-Ok : need.returns-in-Ok
 returns-in-Ok c =
