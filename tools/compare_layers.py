@@ -182,6 +182,15 @@ def made_cases(count, seed):
     return cases
 
 
+def longest_block_cases():
+    """Returns the longest block that is taken, 29,764 bytes, and the same with a byte after it."""
+    names = [f"{number:016}".translate(str.maketrans("0123456789", "abcdefghij")) for number in range(64)]
+    nodes = [Node(names[number % 64], 0, number) for number in range(4096)]
+    data, places = as_block(nodes)
+    assert len(data) == 29_764
+    return [("the longest block", ["block", "total"], data, listing(nodes, places, total=True)), ("one byte longer", ["block"], data + b"\0", "refused 5\n")]
+
+
 def main():
     """Compares all outputs; ends with 1 where one differs."""
     parser = argparse.ArgumentParser(description="Compares outline under layers with the tree itself.")
@@ -189,7 +198,8 @@ def main():
     parser.add_argument("--records", type=int, default=400)
     parser.add_argument("--seed", type=int, default=1)
     arguments = parser.parse_args()
-    cases = EXAMPLES + made_cases(arguments.records, arguments.seed)
+    examples = EXAMPLES + longest_block_cases()
+    cases = examples + made_cases(arguments.records, arguments.seed)
     for name, words, data, expected in cases:
         done = subprocess.run([arguments.program] + words, input=data, stdout=subprocess.PIPE, check=False)
         if done.returncode != 0 or done.stdout != expected.encode():
@@ -197,7 +207,7 @@ def main():
             print(f"  status {done.returncode}, printed {done.stdout[:600]!r}")
             print(f"  expected {expected[:600]!r}")
             return 1
-    print(f"outline: {len(EXAMPLES)} examples and {len(cases) - len(EXAMPLES)} made records under layers, every output agrees")
+    print(f"outline: {len(examples)} examples and {len(cases) - len(examples)} made records under layers, every output agrees")
     return 0
 
 
