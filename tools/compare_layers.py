@@ -14,6 +14,8 @@ import subprocess
 import sys
 from typing import NamedTuple, Optional
 
+from write_cases import two_decimals
+
 LONGEST_TEXT = 16384
 
 
@@ -23,12 +25,6 @@ class Node(NamedTuple):
     name: str
     depth: int
     value: Optional[int] = None
-
-
-def two_decimals(value):
-    """Returns a value in hundredths as a decimal with two digits after the point."""
-    sign = "-" if value < 0 else ""
-    return f"{sign}{abs(value) // 100}.{abs(value) % 100:02}"
 
 
 # ---------------------------------------------------------------------------
