@@ -5,14 +5,14 @@ ghost use Rattle.std.specs.shelf.Text.{sameBytes};
 ghost use Rattle.blocks.specs.Places.{name-at, read16};
 
 // The byte at a place, or 0 past the end.
-pub fn byte(bytes: &[u8], i: usize) -> u8
+pub(crate) fn byte(bytes: &[u8], i: usize) -> u8
     ensures { λ r. ⌜ r ≡ getD (now (bytes .entry)) i 0 ⌝ }
 {
     if i < bytes.len() { bytes[i] } else { 0 }
 }
 
 // The number of 16 bits at a place.
-pub fn number16(bytes: &[u8], at: u16) -> u16
+pub(crate) fn number16(bytes: &[u8], at: u16) -> u16
     ensures { λ r. ⌜ r ≡ read16 (now (bytes .entry)) at ⌝ }
 {
     let i = usize::from(at);
@@ -28,7 +28,7 @@ fn part(bytes: &[u8], from: usize, len: usize) -> &[u8]
 }
 
 // The name whose length stands at a place, or what there is of it.
-pub fn name_at(block: &[u8], at: u16) -> &[u8]
+pub(crate) fn name_at(block: &[u8], at: u16) -> &[u8]
     ensures { λ r. ⌜ now r ≡ name-at (now (block .entry)) at ⌝ }
 {
     let i = usize::from(at);
@@ -36,7 +36,7 @@ pub fn name_at(block: &[u8], at: u16) -> &[u8]
 }
 
 // Whether two runs of bytes are the same.
-pub fn same(one: &[u8], other: &[u8]) -> bool
+pub(crate) fn same(one: &[u8], other: &[u8]) -> bool
     ensures { λ r. ⌜ r ≡ sameBytes (now (one .entry)) (now (other .entry)) ⌝ }
 {
     one == other

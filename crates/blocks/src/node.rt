@@ -10,13 +10,13 @@ use lexical::hundredths;
 use records::MOST_LEVELS;
 
 // The number of its name.
-pub fn name_number(block: &[u8], at: u16) -> u8
+pub(crate) fn name_number(block: &[u8], at: u16) -> u8
     ensures { λ r. ⌜ r ≡ name-number (now (block .entry)) at ⌝ }
 {
     byte(block, usize::from(at))
 }
 
-pub fn depth(block: &[u8], at: u16) -> u8
+pub(crate) fn depth(block: &[u8], at: u16) -> u8
     ensures { λ r. ⌜ r ≡ node-depth (now (block .entry)) at ⌝ }
 {
     byte(block, usize::from(at) + 1)
@@ -42,7 +42,7 @@ fn thousandths(block: &[u8], at: u16) -> i32
 }
 
 // The value of a leaf in hundredths; none at a branch.
-pub fn value(block: &[u8], at: u16) -> Option<i32>
+pub(crate) fn value(block: &[u8], at: u16) -> Option<i32>
     ensures { λ r. ⌜ r ≡ node-value (now (block .entry)) at ⌝ }
 {
     if kind(block, at) != LEAF {
@@ -71,7 +71,7 @@ fn fits(block: &[u8], names: u16, at: u16) -> bool
 
 // The greatest depth that may follow it: one more than a branch's, and a leaf's own. None where it does not fit, or lies deeper
 // than `room`.
-pub fn room_after(block: &[u8], names: u16, at: u16, room: u8) -> Option<u8>
+pub(crate) fn room_after(block: &[u8], names: u16, at: u16, room: u8) -> Option<u8>
     ensures { λ r. ⌜ r ≡ room-after (now (block .entry)) names at room ⌝ }
 {
     let depth = depth(block, at);

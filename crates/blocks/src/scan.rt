@@ -65,7 +65,7 @@ fn nodes_fit(block: &[u8], names: u16, first: u16, count: usize) -> bool
 }
 
 // Where things stand in a block; none where it is not good.
-pub fn scan(block: &[u8]) -> Option<Plan>
+pub(crate) fn scan(block: &[u8]) -> Option<Plan>
     ensures { λ r. ⌜ BySome r (good-block (now (block .entry)) ≡ false) (λ p. Scanned (now (block .entry)) (p .starts) (p .first) (p .count)) ⌝ }
 {
     let names = number16(block, 0);

@@ -8,7 +8,7 @@ use crate::entry::Entry;
 use crate::entry::EntryPartialEq;
 
 // Writes the entry of a node that lies in the list.
-pub fn put(list: &mut [Entry], node: usize, entry: Entry)
+pub(crate) fn put(list: &mut [Entry], node: usize, entry: Entry)
     ensures { λ _. ⌜ now (list .exit) ≡ set (now (list .entry)) node entry ⌝ }
 {
     if node < list.len() {
@@ -17,7 +17,7 @@ pub fn put(list: &mut [Entry], node: usize, entry: Entry)
 }
 
 // Whether nothing has differed so far, and the list has this entry too.
-pub fn still(same: bool, held: &[Entry], node: usize, entry: Entry) -> bool
+pub(crate) fn still(same: bool, held: &[Entry], node: usize, entry: Entry) -> bool
     ensures { λ r. ⌜ Decides r ((same ≡ true) × Has (now (held .entry)) node entry) ⌝ }
 {
     same && node < held.len() && held[node] == entry

@@ -31,7 +31,7 @@ pub struct Cutter {
 }
 
 impl Cutter {
-    pub fn new() -> Cutter
+    pub(crate) fn new() -> Cutter
         ensures { λ r. ⌜ r ≡ record { at = 0; state = State.Between } ⌝ }
     {
         Cutter {
@@ -41,7 +41,7 @@ impl Cutter {
     }
 
     // One step. A number ends before the byte that is none of its own, so that byte is left to the next step.
-    pub fn step(&mut self, text: &[u8]) -> Ended
+    pub(crate) fn step(&mut self, text: &[u8]) -> Ended
         requires { ⌜ now self .at < length (now text) ⌝ ∗ ⌜ Good (now text) (now self) ⌝ }
         ensures good { λ _. ⌜ Good (now (text .entry)) (now (self .exit)) ⌝ }
         ensures falls { λ _. ⌜ steps-left (now (text .entry)) (now (self .exit)) < steps-left (now (text .entry)) (now (self .entry)) ⌝ }

@@ -5,7 +5,7 @@ ghost use Rattle.record_text.specs.Cutter.{part};
 ghost use Rattle.record_text.specs.Machine.{same};
 
 // The `len` bytes after the one at `place`, as far as the text goes.
-pub fn bytes_after(text: &[u8], place: usize, len: usize) -> &[u8]
+pub(crate) fn bytes_after(text: &[u8], place: usize, len: usize) -> &[u8]
     ensures { λ r. ⌜ now r ≡ part (now (text .entry)) (place + 1) (place + 1 + len) ⌝ }
 {
     let n = text.len();
@@ -20,7 +20,7 @@ pub fn bytes_after(text: &[u8], place: usize, len: usize) -> &[u8]
 }
 
 // Whether those bytes are the name.
-pub fn has_name(text: &[u8], place: usize, len: usize, name: &[u8]) -> bool
+pub(crate) fn has_name(text: &[u8], place: usize, len: usize, name: &[u8]) -> bool
     ensures { λ r. ⌜ r ≡ same (now (name .entry)) (part (now (text .entry)) (place + 1) (place + 1 + len)) ⌝ }
 {
     let opened = bytes_after(text, place, len);

@@ -70,7 +70,7 @@ fn finish(text: &[u8], cutter: &Cutter, nest: &mut Nest<'_>) -> Result<usize, Re
 
 // One pass over the text: how many nodes it has, or the first item at fault. Writes the entry of each node that lies in the list, and
 // says whether the list `held` has them all. One loop does both, so that `advance` has one caller.
-pub fn pass(text: &[u8], list: &mut [Entry], held: &[Entry]) -> Result<Tally, Refusal>
+pub(crate) fn pass(text: &[u8], list: &mut [Entry], held: &[Entry]) -> Result<Tally, Refusal>
     ensures answer { λ r. ⌜ tallied r ≡ outcome (read (now (text .entry))) ⌝ }
     ensures filled { λ _. ⌜ (Faultless (now (text .entry)) → now (list .exit) ≡ entries (now (text .entry)) (now (list .entry))) ⌝ }
     ensures compared { λ r. ⌜ ByOk r (λ x. Decides (x .same) (Agrees (completed (now (text .entry))) (now (held .entry)))) (λ e. Unit) ⌝ }

@@ -22,7 +22,7 @@ fn is_slash(b: u8) -> bool
 }
 
 // The form of a tag, by what stands between its `<` and its `>`.
-pub fn tag_of(body: &[u8]) -> TagForm
+pub(crate) fn tag_of(body: &[u8]) -> TagForm
     ensures { λ r. ⌜ r ≡ form (tagOf (now (body .entry))) ⌝ }
 {
     let n = body.len();

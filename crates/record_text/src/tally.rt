@@ -15,7 +15,7 @@ pub struct Tally {
 
 impl Tally {
     // Whether the list, with which it was compared, has an entry for each node, and the right one.
-    pub fn is_of(self, list: &[Entry]) -> bool
+    pub(crate) fn is_of(self, list: &[Entry]) -> bool
         ensures { λ r. ⌜ r ≡ (leb (self .nodes) (length (now (list .entry))) && self .same) ⌝ }
     {
         self.nodes <= list.len() && self.same

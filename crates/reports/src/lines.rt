@@ -67,7 +67,7 @@ fn push_front(heap: Global, out: &mut Vec<u8>, front: Front) -> Result<(), Alloc
 }
 
 // Adds the line of a node.
-pub fn push_row(
+pub(crate) fn push_row(
     heap: Global,
     out: &mut Vec<u8>,
     front: Front,
@@ -103,7 +103,7 @@ fn push_node(
 }
 
 // Adds the lines of all nodes.
-pub fn push_nodes(
+pub(crate) fn push_nodes(
     heap: Global,
     out: &mut Vec<u8>,
     text: &[u8],
@@ -118,7 +118,7 @@ pub fn push_nodes(
 }
 
 // Adds the line that counts the nodes.
-pub fn push_count(heap: Global, out: &mut Vec<u8>, nodes: usize) -> Result<(), AllocError>
+pub(crate) fn push_count(heap: Global, out: &mut Vec<u8>, nodes: usize) -> Result<(), AllocError>
     ensures { λ r. ⌜ made r (λ _. vec-items (now (out .exit)) ≡ vec-items (now (out .entry)) ++ count-line nodes) ⌝ }
 {
     let line = format!(heap, "{nodes} nodes\n")?;
@@ -126,7 +126,7 @@ pub fn push_count(heap: Global, out: &mut Vec<u8>, nodes: usize) -> Result<(), A
 }
 
 // Adds the line of the sum of values.
-pub fn push_total(heap: Global, out: &mut Vec<u8>, total: i64) -> Result<(), AllocError>
+pub(crate) fn push_total(heap: Global, out: &mut Vec<u8>, total: i64) -> Result<(), AllocError>
     ensures { λ r. ⌜ made r (λ _. vec-items (now (out .exit)) ≡ vec-items (now (out .entry)) ++ total-line total) ⌝ }
 {
     out.extend_from_slice(b"total")?;
@@ -136,7 +136,11 @@ pub fn push_total(heap: Global, out: &mut Vec<u8>, total: i64) -> Result<(), All
 }
 
 // Adds the line of a refusal.
-pub fn push_refused(heap: Global, out: &mut Vec<u8>, refusal: Refusal) -> Result<(), AllocError>
+pub(crate) fn push_refused(
+    heap: Global,
+    out: &mut Vec<u8>,
+    refusal: Refusal,
+) -> Result<(), AllocError>
     ensures { λ r. ⌜ made r (λ _. vec-items (now (out .exit)) ≡ vec-items (now (out .entry)) ++ refused-line (number refusal) (places refusal)) ⌝ }
 {
     let number = refusal.number();

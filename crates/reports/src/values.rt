@@ -15,7 +15,7 @@ fn sign(value: i64) -> &'static str
 }
 
 // Adds hundredths as a decimal with two digits after the point.
-pub fn push_value(heap: Global, out: &mut Vec<u8>, hundredths: i64) -> Result<(), AllocError>
+pub(crate) fn push_value(heap: Global, out: &mut Vec<u8>, hundredths: i64) -> Result<(), AllocError>
     ensures { λ r. ⌜ made r (λ _. vec-items (now (out .exit)) ≡ vec-items (now (out .entry)) ++ value-text hundredths) ⌝ }
 {
     let sign = sign(hundredths);

@@ -41,7 +41,7 @@ fn is_named(text: &[u8], tag: OpenTag, name: &[u8]) -> bool
 
 impl<'s> Nest<'s> {
     // No element yet, over slots for the open tags.
-    pub fn over(slots: &'s mut [OpenTag]) -> Nest<'s>
+    pub(crate) fn over(slots: &'s mut [OpenTag]) -> Nest<'s>
         requires { ⌜ length (now slots) ≡ most-levels ⌝ }
         ensures ready { λ r. ⌜ Ready r ⌝ }
         ensures first { λ r. ⌜ ((t : List ℕ) → shape-of t r ≡ first) ⌝ }
@@ -62,7 +62,7 @@ impl<'s> Nest<'s> {
     }
 
     // A number item, which began at `place`.
-    pub fn number(&mut self, digits: &[u8], place: usize) -> Turn
+    pub(crate) fn number(&mut self, digits: &[u8], place: usize) -> Turn
         requires { ⌜ Ready (now self) ⌝ }
         ensures ready { λ _. ⌜ Ready (now (self .exit)) ⌝ }
         ensures went { λ r. ⌜ ((t : List ℕ) → Went place (shape-of t (now (self .entry))) (num (now (digits .entry))) (shape-of t (now (self .exit))) r) ⌝ }
@@ -141,7 +141,7 @@ impl<'s> Nest<'s> {
     }
 
     // The tag whose `<` stands at `start` and whose `>` stands at `at`.
-    pub fn tag(&mut self, text: &[u8], start: usize, at: usize) -> Turn
+    pub(crate) fn tag(&mut self, text: &[u8], start: usize, at: usize) -> Turn
         requires { ⌜ Ready (now self) ⌝ ∗ ⌜ start < at ⌝ ∗ ⌜ at < length (now text) ⌝ }
         ensures ready { λ _. ⌜ Ready (now (self .exit)) ⌝ }
         ensures went { λ r. ⌜ Went start (shape-of (now (text .entry)) (now (self .entry))) (tag (part (now (text .entry)) (start + 1) at)) (shape-of (now (text .entry)) (now (self .exit))) r ⌝ }
