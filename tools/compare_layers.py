@@ -10,10 +10,10 @@ the nodes that have it above them.
 import argparse
 import random
 import struct
-import subprocess
 import sys
 from typing import NamedTuple, Optional
 
+from comparing import agrees
 from write_cases import two_decimals
 
 LONGEST_TEXT = 16384
@@ -197,11 +197,8 @@ def main():
     examples = EXAMPLES + longest_block_cases()
     cases = examples + made_cases(arguments.records, arguments.seed)
     for name, words, data, expected in cases:
-        done = subprocess.run([arguments.program] + words, input=data, stdout=subprocess.PIPE, check=False)
-        if done.returncode != 0 or done.stdout != expected.encode():
-            print(f"{name}: outline {' '.join(words)} of {data[:300]!r}, {len(data)} bytes:")
-            print(f"  status {done.returncode}, printed {done.stdout[:600]!r}")
-            print(f"  expected {expected[:600]!r}")
+        if not agrees([arguments.program] + words, data, expected.encode()):
+            print(f"  in: {name}")
             return 1
     print(f"outline: {len(examples)} examples and {len(cases) - len(examples)} made records under layers, every output agrees")
     return 0

@@ -6,9 +6,9 @@ The inputs are the named examples, and inputs about as long as the program takes
 """
 
 import argparse
-import subprocess
 import sys
 
+from comparing import agrees
 from named_examples import EXAMPLES
 from write_cases import outline_output
 
@@ -36,11 +36,7 @@ def main():
     arguments = parser.parse_args()
     texts = inputs()
     for text in texts:
-        done = subprocess.run([arguments.program], input=text, stdout=subprocess.PIPE, check=False)
-        if done.returncode != 0 or done.stdout != expected(text):
-            print(f"{text[:300]!r} of {len(text)} bytes:")
-            print(f"  status {done.returncode}, printed {done.stdout[:300]!r}")
-            print(f"  expected {expected(text)[:300]!r}")
+        if not agrees([arguments.program], text, expected(text)):
             return 1
     print(f"outline: {len(texts)} inputs, every output agrees")
     return 0

@@ -12,18 +12,15 @@ the rules by which record text is narrower than XML (marked "narrower than XML" 
 import argparse
 import random
 import re
-import subprocess
 import sys
 from decimal import ROUND_HALF_UP, Decimal
 from xml.parsers import expat
 
+from comparing import cut_for_show, first_difference, report_disagreements, run_program, split_answers, verdict
+
 MOST_NODES = 4096
 MOST_DEPTH = 31
 LONGEST_LIST = 5000
-# Seconds that the program may take for all cases.
-LONGEST_RUN = 50
-SHOWN_DISAGREEMENTS = 5
-SHOWN_BYTES = 300
 
 BLANKS = b" \t\r\n"
 WORD = re.compile(r"[A-Za-z][A-Za-z0-9-]{0,15}")
@@ -445,63 +442,6 @@ def as_input(lent, text):
     return str(lent).encode() + b" " + text + b"\0"
 
 
-def split_answers(output):
-    """Parts what `openings` printed into one list of lines for each case."""
-    lines = output.decode("ascii", "backslashreplace").splitlines()
-    answers = []
-    at = 0
-    while at < len(lines):
-        accepted = re.fullmatch(r"ok ([0-9]{1,4})", lines[at])
-        following = int(accepted.group(1)) if accepted else 0
-        answers.append(lines[at : at + 1 + following])
-        at += 1 + following
-    return answers
-
-
-def cut_for_show(text):
-    """Returns a text as Python writes it, its middle left out where it is long."""
-    if len(text) <= SHOWN_BYTES:
-        return repr(text)
-    half = SHOWN_BYTES // 2
-    return f"{text[:half]!r} ... {text[-half:]!r} ({len(text)} bytes)"
-
-
-def first_difference(expected, answered):
-    """Returns the first two lines that differ, with their number."""
-    for number, (right, wrong) in enumerate(zip(expected, answered)):
-        if right != wrong:
-            return f"line {number}: expected {right!r}, answered {wrong!r}"
-    return f"expected {len(expected)} lines, answered {len(answered)}"
-
-
-def run_program(program, cases):
-    """Runs the program once on all cases; returns its answers and its status."""
-    data = b"".join(as_input(case.lent, case.text) for case in cases)
-    try:
-        done = subprocess.run([program], input=data, capture_output=True, timeout=LONGEST_RUN, check=False)
-    except subprocess.TimeoutExpired:
-        sys.exit(f"{program} did not end within {LONGEST_RUN} seconds")
-    if done.returncode != 0:
-        print(f"{program} ended with status {done.returncode}: {cut_for_show(done.stderr)}")
-    return split_answers(done.stdout), done.returncode
-
-
-def report_disagreements(cases, answers):
-    """Prints the first few disagreements and returns how many there are."""
-    wrong = 0
-    for number, (case, answered) in enumerate(zip(cases, answers)):
-        if answered == case.expected:
-            continue
-        wrong += 1
-        if wrong <= SHOWN_DISAGREEMENTS:
-            print(f"case {number}, list of {case.lent}: {cut_for_show(case.text)}")
-            print(f"  {first_difference(case.expected, answered)}")
-    if len(answers) != len(cases):
-        print(f"{len(cases)} cases, but {len(answers)} answers")
-        wrong += 1
-    return wrong
-
-
 def summary(cases):
     """Returns the line that says what the cases were."""
     firsts = [case.expected[0] for case in cases]
@@ -518,14 +458,11 @@ def summary(cases):
 def compare(program, count, seed):
     """Runs the comparison and returns the status to end with."""
     cases = make_cases(count, seed)
-    answers, status = run_program(program, cases)
-    wrong = report_disagreements(cases, answers)
+    printed, status = run_program([program], b"".join(as_input(case.lent, case.text) for case in cases))
+    names = [f"case {number}, list of {case.lent}: {cut_for_show(case.text)}" for number, case in enumerate(cases)]
+    wrong = report_disagreements(names, [case.expected for case in cases], split_answers(printed))
     print(summary(cases))
-    if wrong or status != 0:
-        print(f"disagreements: {wrong}")
-        return 1
-    print("every answer agrees")
-    return 0
+    return verdict(wrong, status)
 
 
 # ---------------------------------------------------------------------------

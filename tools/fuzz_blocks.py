@@ -12,18 +12,15 @@ import argparse
 import random
 import re
 import struct
-import subprocess
 import sys
 from decimal import ROUND_HALF_UP, Decimal
+
+from comparing import cut_for_show, report_disagreements, run_program, split_answers, verdict
 
 MOST_NAMES = 64
 MOST_NODES = 4096
 MOST_DEPTH = 31
 GREATEST_THOUSANDTHS = 99_999_999
-# Seconds that the program may take for all cases.
-LONGEST_RUN = 300
-SHOWN_DISAGREEMENTS = 5
-SHOWN_DIGITS = 400
 
 WORD = re.compile(rb"[A-Za-z][A-Za-z0-9-]{0,15}")
 
@@ -319,78 +316,19 @@ class Maker:
 # ---------------------------------------------------------------------------
 
 
-def split_answers(output):
-    """Parts what `block_cases` printed into one list of lines for each case."""
-    lines = output.decode("ascii", "backslashreplace").splitlines()
-    answers = []
-    at = 0
-    while at < len(lines):
-        accepted = re.fullmatch(r"ok ([0-9]{1,4})", lines[at])
-        following = int(accepted.group(1)) + 1 if accepted else 0
-        answers.append(lines[at : at + 1 + following])
-        at += 1 + following
-    return answers
-
-
-def cut_for_show(digits):
-    """Returns the digits of a block, its middle left out where it is long."""
-    if len(digits) <= SHOWN_DIGITS:
-        return digits
-    half = SHOWN_DIGITS // 2
-    return f"{digits[:half]} .. {digits[-half:]} ({len(digits) // 2} bytes)"
-
-
-def first_difference(expected, answered):
-    """Returns the first two lines that differ, with their number."""
-    for number, (right, wrong) in enumerate(zip(expected, answered)):
-        if right != wrong:
-            return f"line {number}: expected {right!r}, answered {wrong!r}"
-    return f"expected {len(expected)} lines, answered {len(answered)}"
-
-
-def run_program(program, blocks):
-    """Runs the program once on all blocks; returns its answers and its status."""
-    data = b"".join(block.hex().encode() + b"\n" for block in blocks)
-    try:
-        done = subprocess.run([program], input=data, capture_output=True, timeout=LONGEST_RUN, check=False)
-    except subprocess.TimeoutExpired:
-        sys.exit(f"{program} did not end within {LONGEST_RUN} seconds")
-    if done.returncode != 0:
-        print(f"{program} ended with status {done.returncode}: {done.stderr[:SHOWN_DIGITS]!r}")
-    return split_answers(done.stdout), done.returncode
-
-
-def report_disagreements(blocks, expected, answers):
-    """Prints the first few disagreements and returns how many there are."""
-    wrong = 0
-    for number, (block, right, answered) in enumerate(zip(blocks, expected, answers)):
-        if answered == right:
-            continue
-        wrong += 1
-        if wrong <= SHOWN_DISAGREEMENTS:
-            print(f"case {number}: {cut_for_show(block.hex())}")
-            print(f"  {first_difference(right, answered)}")
-    if len(answers) != len(blocks):
-        print(f"{len(blocks)} cases, but {len(answers)} answers")
-        wrong += 1
-    return wrong
-
-
 def compare(program, count, seed):
     """Runs the comparison and returns the status to end with."""
     maker = Maker(seed)
     blocks = [b"", bytes(4)] + [maker.block(number) for number in range(count)]
     expected = [decode(block) for block in blocks]
-    answers, status = run_program(program, blocks)
-    wrong = report_disagreements(blocks, expected, answers)
+    printed, status = run_program([program], b"".join(block.hex().encode() + b"\n" for block in blocks))
+    names = [f"case {number}: {cut_for_show(block)}" for number, block in enumerate(blocks)]
+    # A line tells the node past the last, too.
+    wrong = report_disagreements(names, expected, split_answers(printed, further=1))
     accepted = [lines for lines in expected if lines[0] != "refused 5"]
     nodes = sum(len(lines) - 2 for lines in accepted)
     print(f"{len(blocks)} blocks: {len(accepted)} accepted with {nodes} nodes, {len(blocks) - len(accepted)} refused with 5")
-    if wrong or status != 0:
-        print(f"disagreements: {wrong}")
-        return 1
-    print("every answer agrees")
-    return 0
+    return verdict(wrong, status)
 
 
 def main():

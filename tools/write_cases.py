@@ -12,7 +12,8 @@ import argparse
 import sys
 from pathlib import Path
 
-from compare_with_expat import Opening, as_input, first_difference, hundredths
+from compare_with_expat import Opening, as_input, hundredths
+from comparing import first_difference
 from named_examples import EXAMPLES
 
 CRATES = Path(__file__).resolve().parent.parent / "crates"

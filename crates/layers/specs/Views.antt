@@ -56,7 +56,7 @@ abbrev pub entries : ℕ → List Node → List Shown
 entries i [] = []
 entries i (n ∷ ns) = entry-of i n ∷ entries (i + 1) ns
 
--- an entry with its depth lowered by d
+-- an entry shown d higher up: its depth is lowered by d
 abbrev pub raised : ℕ → Shown → Shown
 raised d s = record { at = s .at; depth = s .depth - d; inner = s .inner }
 
