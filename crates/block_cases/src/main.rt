@@ -2,6 +2,8 @@
 // lowercase hexadecimal digits a byte. A refusal is told by `refused` and its number. An accepted block is told by `ok` and the
 // count, then a line a node, and one for the node past the last: depth, place, value in hundredths or `-`, and the number of the
 // first name that the record takes for the node's own, or 64 where it takes none.
+#![tactic(auto)]
+
 use blocks::{BlockRecord, MOST_NAMES};
 use records::Record;
 use std::io::Read;

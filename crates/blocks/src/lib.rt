@@ -1,4 +1,6 @@
 // Gate blocks: a record as bytes, asked in place.
+#![tactic(auto)]
+
 mod block;
 mod bytes;
 mod laws;

@@ -1,4 +1,6 @@
 // Contents: the expressions by which forms say which children a branch has, the sets of Berry and Sethi, and marking.
+#![tactic(auto)]
+
 mod building;
 mod expression;
 mod laws;

@@ -1,4 +1,6 @@
 // Form texts: rules and starts, as forms' authors write them.
+#![tactic(auto)]
+
 mod content;
 mod cursor;
 mod errors;

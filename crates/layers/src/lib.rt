@@ -1,4 +1,6 @@
 // Layers that lie over any record, and are records again.
+#![tactic(auto)]
+
 mod laws;
 mod view;
 

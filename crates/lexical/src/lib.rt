@@ -1,4 +1,6 @@
 // The lexical layer: kinds of bytes, words, and numbers in hundredths.
+#![tactic(auto)]
+
 mod kinds;
 mod laws;
 mod numbers;

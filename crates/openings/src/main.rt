@@ -1,5 +1,7 @@
 // Reads cases from standard input and prints what `open` answers to each. A case is the length of the list to lend, one space, the
 // text, and a byte 0. An accepted text is told by `ok`, the count, and a line a node: start, end, name length, depth, kind, value.
+#![tactic(auto)]
+
 use record_text::{Entry, open};
 use std::io::Read;
 

@@ -3,6 +3,8 @@
 //   cut N      only node N of the record and what lies beneath it
 //   hide NAME  of what is shown, no nodes of that name and nothing beneath them
 //   total      the sum of the values that are shown, too
+#![tactic(auto)]
+
 mod command;
 
 use blocks::MOST_BLOCK;

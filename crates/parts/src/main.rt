@@ -1,4 +1,6 @@
 // Lays the record text on standard input and prints the part of each node, and what `lay` answers to lists that are not the text's.
+#![tactic(auto)]
+
 use record_text::{Entry, TextRecord, first_part, open};
 use records::{MOST_NODES, Record};
 use std::alloc::Global;

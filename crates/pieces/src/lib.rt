@@ -1,4 +1,6 @@
 // Form texts cut into pieces: words, numbers and signs, between blanks.
+#![tactic(auto)]
+
 mod cutting;
 mod laws;
 mod run;

@@ -1,4 +1,6 @@
 // Record text: XML-like text read into a list of node entries.
+#![tactic(auto)]
+
 mod compare;
 mod cutter;
 mod entry;

@@ -1,4 +1,6 @@
 // Records: five questions that can be put to any list of nodes, wherever it comes from.
+#![tactic(auto)]
+
 mod limits;
 mod record;
 mod totals;

@@ -1,4 +1,6 @@
 // The refusals of the checker, each with its number and the place that it names.
+#![tactic(auto)]
+
 ghost use Rattle.std.specs.Prelude.{◌≡◌};
 ghost use Rattle.refusals.specs.Refusals.{number, places};
 ghost use Rattle.std.specs.Option.{option_to_list};

@@ -1,4 +1,6 @@
 // What the programs print, as bytes.
+#![tactic(auto)]
+
 mod laws;
 mod lines;
 mod outlines;

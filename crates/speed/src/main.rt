@@ -1,5 +1,7 @@
 // Opens a text many times, for a measurement of speed. The first byte of the input says how often: `1` 2,001 times, another once.
 // The rest is the text. Prints the node count.
+#![tactic(auto)]
+
 use record_text::{Entry, open};
 use records::MOST_NODES;
 use std::io::Read;
