@@ -16,11 +16,11 @@ read s minus k x e f h =
     ap (with_sign minus) (h ∙ (ap thousandths (take_rest s k) ∙ ap (λ i. thousandths (drop i s)) (f ∙ one_or_none minus)))
     ∙ sym (exact_with s minus (sym e))
 
-pub returns-in-err-size : goal.returns-in-err-size
-returns-in-err-size c =
+pub returns-in_err-size : goal.returns-in_err-size
+returns-in_err-size c =
     let s = c.args.bytes.now in
-    c.from-residual.ensures
-    ∙ read s c.has-minus-minus.result c.from.result None c.has-minus-minus.ensures.value c.from.ensures c.in-err-size.ensures.value
+    c.from_residual.ensures
+    ∙ read s c.has_minus-minus.result c.from.result None c.has_minus-minus.ensures.value c.from.ensures c.in_err-size.ensures.value
 
 pub returns : goal.returns
 returns c =
@@ -28,4 +28,4 @@ returns c =
     let z = c.signed.result in
     let f : SFits w32 z = search rules in
     ap {B = Maybe ℤ} Some (to_z-of_z w32 z f ∙ c.signed.ensures)
-    ∙ read s c.has-minus-minus.result c.from.result (Some c.in-ok-size.size) c.has-minus-minus.ensures.value c.from.ensures c.in-ok-size.ensures.value
+    ∙ read s c.has_minus-minus.result c.from.result (Some c.in_ok-size.size) c.has_minus-minus.ensures.value c.from.ensures c.in_ok-size.ensures.value

@@ -7,44 +7,44 @@ use Rattle.lexical.specs.Numbers.{decimal}
 use Rattle.lexical.proofs.KindFacts.{is_digit, no_digit, digit_range}
 use Rattle.lexical.proofs.NumberFacts.{valued_yes, valued_empty, valued_long, valued_stray, next_power}
 use Rattle.lexical.proofs.numbers.figures.Goals as goal
-use Rattle.lexical.proofs.numbers.figures.Goals.{then-is-empty-via-then-is-empty, then-is-empty-via-else-is-empty+then-digits-most}
+use Rattle.lexical.proofs.numbers.figures.Goals.{then-is_empty-via-then-is_empty, then-is_empty-via-else-is_empty+then-digits-most}
 
 -- one byte more
 next : (s : List ℕ) (i : ℕ) (d : Bool) → i < length s → digit (get_or s i 0) ≡ d → all digit (drop i s) ≡ (d && all digit (drop (i + 1) s))
 next s i d h e = at_drop_more (all digit) s i 0 h ∙ ap (λ x. x && all digit (drop (i + 1) s)) e
 
-pub returns-then-is-empty : goal.returns-then-is-empty
-returns-then-is-empty c =
+pub returns-then-is_empty : goal.returns-then-is_empty
+returns-then-is_empty c =
     let s = c.args.digits.now in
-    elim c.then-is-empty.branch [
-      | then-is-empty-via-then-is-empty w ↦ record { value = sym (valued_empty c.args.most s (search rules)); small = tt }
-      | then-is-empty-via-else-is-empty+then-digits-most w ↦ record { value = sym (valued_long c.args.most s w.if-digits-most.true); small = tt }
+    elim c.then-is_empty.branch [
+      | then-is_empty-via-then-is_empty w ↦ record { value = sym (valued_empty c.args.most s (search rules)); small = tt }
+      | then-is_empty-via-else-is_empty+then-digits-most w ↦ record { value = sym (valued_long c.args.most s w.if-digits-most.true); small = tt }
     ]
 
-pub returns-in-default : goal.returns-in-default
-returns-in-default c =
+pub returns-in_default : goal.returns-in_default
+returns-in_default c =
     let s = c.args.digits.now in
     let i = c.loop-b.b-index in
-    let d = no_digit (get_or s i 0) c.kind-of.result c.kind-of.ensures c.in-default.not-Digit in
+    let d = no_digit (get_or s i 0) c.kind_of.result c.kind_of.ensures c.in_default.not-Digit in
     record { value = sym (valued_stray c.args.most s (sym c.loop-b.invariant.2 ∙ next s i false c.loop-b-test.true d)); small = tt }
 
 -- the value so far is small
 below : (n i m : ℕ) → n < 10 ^ i → i < m → m ≤ 9 → n < 100000000
 below n i m h l k = let b : 10 ^ i ≤ 10 ^ 8 = pow-le-pow_right {n = 10} (omega arith) {i = i} {j = 8} (omega arith) in omega arith
 
-pub overflow-mul-n : goal.overflow-mul-n
-overflow-mul-n c =
+pub overflow_mul-n : goal.overflow_mul-n
+overflow_mul-n c =
     let b : c.loop-b.n < 100000000 = below c.loop-b.n c.loop-b.b-index c.args.most c.loop-b.invariant.0 (omega arith) c.requires in
     search rules
 
-pub overflow-sub-b : goal.overflow-sub-b
-overflow-sub-b c = (digit_range _ (is_digit (get_or c.args.digits.now c.loop-b.b-index 0) c.kind-of.result c.kind-of.ensures c.in-Digit.is)).0
+pub overflow_sub-b : goal.overflow_sub-b
+overflow_sub-b c = (digit_range _ (is_digit (get_or c.args.digits.now c.loop-b.b-index 0) c.kind_of.result c.kind_of.ensures c.in-Digit.is)).0
 
-pub overflow-add-n : goal.overflow-add-n
-overflow-add-n c =
+pub overflow_add-n : goal.overflow_add-n
+overflow_add-n c =
     let b : c.loop-b.n < 100000000 = below c.loop-b.n c.loop-b.b-index c.args.most c.loop-b.invariant.0 (omega arith) c.requires in
     let v : ℕ = get_or c.args.digits.now c.loop-b.b-index 0 in
-    let r : (48 ≤ v) × (v ≤ 57) = digit_range v (is_digit v c.kind-of.result c.kind-of.ensures c.in-Digit.is) in
+    let r : (48 ≤ v) × (v ≤ 57) = digit_range v (is_digit v c.kind_of.result c.kind_of.ensures c.in-Digit.is) in
     search rules
 
 pub loop-b-preserved : goal.loop-b-preserved
@@ -52,7 +52,7 @@ loop-b-preserved c =
     let s = c.args.digits.now in
     let i = c.loop-b.b-index in
     let n = c.loop-b.n in
-    let d = is_digit (get_or s i 0) c.kind-of.result c.kind-of.ensures c.in-Digit.is in
+    let d = is_digit (get_or s i 0) c.kind_of.result c.kind_of.ensures c.in-Digit.is in
     let r = digit_range (get_or s i 0) d in
     let e : c.from.result ≡ get_or s i 0 - 48 = c.from.ensures in (
       next_power n i c.from.result c.loop-b.invariant.0 (omega (arith, r.1)),

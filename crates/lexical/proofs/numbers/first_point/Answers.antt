@@ -11,7 +11,7 @@ returns-in-Point c =
     let i = c.loop-i.i in
     let b = get_or s i 0 in
     let p : first_point (drop i s) ≡ 0 =
-    at_drop_more first_point s i 0 c.loop-i-test.true ∙ point_here b (drop (i + 1) s) (is_point b c.kind-of.result c.kind-of.ensures c.in-Point.is) in
+    at_drop_more first_point s i 0 c.loop-i-test.true ∙ point_here b (drop (i + 1) s) (is_point b c.kind_of.result c.kind_of.ensures c.in-Point.is) in
     record { place = omega (arith, c.loop-i.invariant); within = omega arith }
 
 pub loop-i-preserved : goal.loop-i-preserved
@@ -20,7 +20,7 @@ loop-i-preserved c =
     let i = c.loop-i.i in
     let b = get_or s i 0 in
     let p : first_point (drop i s) ≡ suc (first_point (drop (i + 1) s)) =
-    at_drop_more first_point s i 0 c.loop-i-test.true ∙ point_past b (drop (i + 1) s) (no_point b c.kind-of.result c.kind-of.ensures c.in-default.not-Point) in
+    at_drop_more first_point s i 0 c.loop-i-test.true ∙ point_past b (drop (i + 1) s) (no_point b c.kind_of.result c.kind_of.ensures c.in_default.not-Point) in
     omega (arith, c.loop-i.invariant)
 
 pub returns : goal.returns

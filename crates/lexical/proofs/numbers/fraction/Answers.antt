@@ -11,18 +11,18 @@ read s f x h e v =
     ap (in_thousandths (length f)) v
     ∙ (ap (λ g. in_thousandths (length g) (valued most_fraction g)) e ∙ sym (fraction_past s (λ z. omega arith)))
 
-pub returns-then-is-empty : goal.returns-then-is-empty
-returns-then-is-empty c =
+pub returns-then-is_empty : goal.returns-then-is_empty
+returns-then-is_empty c =
     let s = c.args.part.now in
     record { value = sym (ap fraction (nil_from_length s (search rules)) ∙ fraction_nil); small = omega arith }
 
-pub returns-in-err-n : goal.returns-in-err-n
-returns-in-err-n c =
+pub returns-in_err-n : goal.returns-in_err-n
+returns-in_err-n c =
     let s = c.args.part.now in
     let h : 0 < length s = search rules in
     record {
-      value = c.from-residual.ensures ∙ read s (take (length s - 1) (drop 1 s)) None h (take_rest s 1) c.in-err-n.ensures.value;
-      small = MatchOption-from_none c.from-residual.result (λ n. n < 1000) c.from-residual.ensures;
+      value = c.from_residual.ensures ∙ read s (take (length s - 1) (drop 1 s)) None h (take_rest s 1) c.in_err-n.ensures.value;
+      small = MatchOption-from_none c.from_residual.result (λ n. n < 1000) c.from_residual.ensures;
     }
 
 pub returns : goal.returns
@@ -32,6 +32,6 @@ returns c =
     record {
       value =
           ap {B = Maybe ℕ} Some c.scale.ensures
-          ∙ read s (take (length s - 1) (drop 1 s)) (Some c.in-ok-n.n) h (take_rest s 1) c.in-ok-n.ensures.value;
-      small = rw c.scale.ensures (scaled_small c.in-ok-n.n _ c.in-ok-n.ensures.small.0 c.in-ok-n.ensures.small.1);
+          ∙ read s (take (length s - 1) (drop 1 s)) (Some c.in_ok-n.n) h (take_rest s 1) c.in_ok-n.ensures.value;
+      small = rw c.scale.ensures (scaled_small c.in_ok-n.n _ c.in_ok-n.ensures.small.0 c.in_ok-n.ensures.small.1);
     }

@@ -6,10 +6,10 @@ use Rattle.lexical.proofs.KindFacts.{is_hyphen, no_hyphen}
 use Rattle.lexical.proofs.NumberFacts.{minus_first, minus_nil}
 use Rattle.lexical.proofs.numbers.has_minus.Goals as goal
 
-pub returns-else-not-is-empty : goal.returns-else-not-is-empty
-returns-else-not-is-empty c =
+pub returns-else-not-is_empty : goal.returns-else-not-is_empty
+returns-else-not-is_empty c =
     let s = c.args.bytes.now in
-    let e : c.is-empty.result ≡ true = search rules in
+    let e : c.is_empty.result ≡ true = search rules in
     record { value = ap not e ∙ sym (ap has_minus (nil_from_length s (search rules)) ∙ minus_nil); within = λ t. absurd (both_ways _ (ap not e) t) }
 
 pub returns-in-Hyphen : goal.returns-in-Hyphen
@@ -17,15 +17,15 @@ returns-in-Hyphen c =
     let s = c.args.bytes.now in
     let h : 0 < length s = search rules in
     record {
-      value = sym (minus_first s (λ z. omega arith) ∙ is_hyphen (get_or s 0 0) c.kind-of.result c.kind-of.ensures c.in-Hyphen.is);
+      value = sym (minus_first s (λ z. omega arith) ∙ is_hyphen (get_or s 0 0) c.kind_of.result c.kind_of.ensures c.in-Hyphen.is);
       within = λ _. omega arith;
     }
 
-pub returns-in-default : goal.returns-in-default
-returns-in-default c =
+pub returns-in_default : goal.returns-in_default
+returns-in_default c =
     let s = c.args.bytes.now in
     let h : 0 < length s = search rules in
     record {
-      value = sym (minus_first s (λ z. omega arith) ∙ no_hyphen (get_or s 0 0) c.kind-of.result c.kind-of.ensures c.in-default.not-Hyphen);
+      value = sym (minus_first s (λ z. omega arith) ∙ no_hyphen (get_or s 0 0) c.kind_of.result c.kind_of.ensures c.in_default.not-Hyphen);
       within = λ _. omega arith;
     }

@@ -12,33 +12,33 @@ split s w r p x y e f g h k =
     let b : y ≡ fraction (drop (first_point s) s) = k ∙ ap fraction (g ∙ ap (λ i. drop i s) e) in
     cc
 
-pub returns-in-err-whole : goal.returns-in-err-whole
-returns-in-err-whole c =
+pub returns-in_err-whole : goal.returns-in_err-whole
+returns-in_err-whole c =
     let s = c.args.bytes.now in
-    let p = c.first-point-point.result in
+    let p = c.first_point-point.result in
     record {
-      value = c.from-residual.ensures ∙ split s _ (drop p s) p None (fraction (drop p s)) c.first-point-point.ensures.place (search rules) refl c.in-err-whole.ensures.value refl;
-      small = MatchOption-from_none c.from-residual.result (λ n. n < 100000000) c.from-residual.ensures;
+      value = c.from_residual.ensures ∙ split s _ (drop p s) p None (fraction (drop p s)) c.first_point-point.ensures.place (search rules) refl c.in_err-whole.ensures.value refl;
+      small = MatchOption-from_none c.from_residual.result (λ n. n < 100000000) c.from_residual.ensures;
     }
 
-pub returns-in-err-part : goal.returns-in-err-part
-returns-in-err-part c =
+pub returns-in_err-part : goal.returns-in_err-part
+returns-in_err-part c =
     let s = c.args.bytes.now in
-    let p = c.first-point-point.result in
+    let p = c.first_point-point.result in
     record {
       value =
-          c.from-residual-in-err-part.ensures
-          ∙ split s _ _ p (Some c.in-ok-whole.whole) None c.first-point-point.ensures.place (search rules) (take_rest s p) c.in-ok-whole.ensures.value c.in-err-part.ensures.value;
-      small = MatchOption-from_none c.from-residual-in-err-part.result (λ n. n < 100000000) c.from-residual-in-err-part.ensures;
+          c.from_residual-in_err-part.ensures
+          ∙ split s _ _ p (Some c.in_ok-whole.whole) None c.first_point-point.ensures.place (search rules) (take_rest s p) c.in_ok-whole.ensures.value c.in_err-part.ensures.value;
+      small = MatchOption-from_none c.from_residual-in_err-part.result (λ n. n < 100000000) c.from_residual-in_err-part.ensures;
     }
 
 pub returns : goal.returns
 returns c =
     let s = c.args.bytes.now in
-    let p = c.first-point-point.result in
-    let l = c.in-ok-whole.ensures.small in
+    let p = c.first_point-point.result in
+    let l = c.in_ok-whole.ensures.small in
     record {
       value =
-          split s _ _ p (Some c.in-ok-whole.whole) (Some c.in-ok-part.part) c.first-point-point.ensures.place (search rules) (take_rest s p) c.in-ok-whole.ensures.value c.in-ok-part.ensures.value;
+          split s _ _ p (Some c.in_ok-whole.whole) (Some c.in_ok-part.part) c.first_point-point.ensures.place (search rules) (take_rest s p) c.in_ok-whole.ensures.value c.in_ok-part.ensures.value;
       small = search rules;
     }

@@ -43,34 +43,34 @@ goes_yes k h = elim h [ inl e ↦ ap continues_word e | inr f ↦ elim f [ inl e
 next : (s : List ℕ) (i : ℕ) (b : Bool) → i < length s → on (get_or s i 0) ≡ b → all on (drop i s) ≡ (b && all on (drop (i + 1) s))
 next s i b h e = at_drop_more (all on) s i 0 h ∙ ap (λ x. x && all on (drop (i + 1) s)) e
 
-pub returns-then-is-empty : goal.returns-then-is-empty
+pub returns-then-is_empty : goal.returns-then-is_empty
 unfolding spelled
-returns-then-is-empty c =
+returns-then-is_empty c =
     ap spelled (sym (nil_from_length c.args.bytes.now (search rules)))
 
-pub returns-in-default : goal.returns-in-default
-returns-in-default c =
+pub returns-in_default : goal.returns-in_default
+returns-in_default c =
     let s = c.args.bytes.now in
     let h : 0 < length s = search rules in
-    let b : begins_word (kind (get_or s 0 0)) ≡ false = ap begins_word (sym c.kind-of.ensures) ∙ begins_not c.kind-of.result c.in-default.not-Letter in
+    let b : begins_word (kind (get_or s 0 0)) ≡ false = ap begins_word (sym c.kind_of.ensures) ∙ begins_not c.kind_of.result c.in_default.not-Letter in
     sym (spelled_parts s false _ h b refl)
 
 first_letter : (s : List ℕ) (k : Kind) → k ≡ kind (get_or s 0 0) → k ≡ Letter → begins_word (kind (get_or s 0 0)) ≡ true
 first_letter s k e f = ap begins_word (sym e ∙ f)
 
-pub returns-in-default-kind-of : goal.returns-in-default-kind-of
-returns-in-default-kind-of c =
+pub returns-in_default-kind_of : goal.returns-in_default-kind_of
+returns-in_default-kind_of c =
     let s = c.args.bytes.now in
     let i = c.loop-i.i in
     let h : 0 < length s = search rules in
-    let g : on (get_or s i 0) ≡ false = ap continues_word (sym c.kind-of-in-loop-i.ensures) ∙ goes_not c.kind-of-in-loop-i.result c.in-default-kind-of.not-Letter c.in-default-kind-of.not-Digit c.in-default-kind-of.not-Hyphen in
-    sym (spelled_parts s true false h (first_letter s c.kind-of.result c.kind-of.ensures c.in-Letter.is) (c.loop-i.invariant ∙ next s i false (omega arith) g))
+    let g : on (get_or s i 0) ≡ false = ap continues_word (sym c.kind_of-in-loop-i.ensures) ∙ goes_not c.kind_of-in-loop-i.result c.in_default-kind_of.not-Letter c.in_default-kind_of.not-Digit c.in_default-kind_of.not-Hyphen in
+    sym (spelled_parts s true false h (first_letter s c.kind_of.result c.kind_of.ensures c.in-Letter.is) (c.loop-i.invariant ∙ next s i false (omega arith) g))
 
 pub loop-i-preserved : goal.loop-i-preserved
 loop-i-preserved c =
     let s = c.args.bytes.now in
     let i = c.loop-i.i in
-    let g : on (get_or s i 0) ≡ true = ap continues_word (sym c.kind-of-in-loop-i.ensures) ∙ goes_yes c.kind-of-in-loop-i.result c.in-Letter-kind-of.is in
+    let g : on (get_or s i 0) ≡ true = ap continues_word (sym c.kind_of-in-loop-i.ensures) ∙ goes_yes c.kind_of-in-loop-i.result c.in-Letter-kind_of.is in
     c.loop-i.invariant ∙ next s i true (omega arith) g
 
 pub returns : goal.returns
@@ -78,4 +78,4 @@ returns c =
     let s = c.args.bytes.now in
     let h : 0 < length s = search rules in
     let a : all on (drop 1 s) ≡ true = c.loop-i.invariant ∙ at_drop_all (all on) s c.loop-i.i (omega arith) in
-    sym (spelled_parts s true true h (first_letter s c.kind-of.result c.kind-of.ensures c.in-Letter.is) a)
+    sym (spelled_parts s true true h (first_letter s c.kind_of.result c.kind_of.ensures c.in-Letter.is) a)
