@@ -6,7 +6,7 @@ use crate::record::Record;
 
 // The sum of the values from node n on. At most 4,096 values of at most 10,000,000 fit the answer.
 fn sum_from<R: Record>(source: &R, n: usize) -> i64
-    ensures { result ≡ total_of (drop n (nodes source.now)) }
+    ensures { result ≡ total_of (drop n (R.nodes source.now)) }
 {
     let mut sum = 0;
     for i in n..source.count() {
@@ -19,7 +19,7 @@ fn sum_from<R: Record>(source: &R, n: usize) -> i64
 
 // The sum of all values, in hundredths.
 pub fn total<R: Record>(source: &R) -> i64
-    ensures { result ≡ total_of (nodes source.now) }
+    ensures { result ≡ total_of (R.nodes source.now) }
 {
     sum_from(source, 0)
 }

@@ -2,10 +2,10 @@ use Rattle.std.proofs.Common.{◌<◌, length, sym, ◌∙◌, arith, w32, SFits
 use Rattle.std.proofs.lemmas.Int.{to_z-of_z}
 use Rattle.records.proofs.Totaling.{leaf_fits, leaf_more, branch_more, total_end}
 use Rattle.records.proofs.totals.sum_from.Goals as goal
-use Rattle.records.proofs.totals.sum_from.Goals.{in-Some, in-default}
+use Rattle.records.proofs.totals.sum_from.Goals.{in-Some, in_default}
 
-pub overflow-add-sum : goal.overflow-add-sum
-overflow-add-sum g c =
+pub overflow_add-sum : goal.overflow_add-sum
+overflow_add-sum g c =
     let ns = g.R.Record.nodes c.args.source.now in
     let h : c.loop-i.i < length ns = omega (arith, c.loop-i-test.true, c.count-i-end.ensures) in
     let f : SFits w32 c.in-Some.value = search rules in
@@ -19,7 +19,7 @@ loop-i-preserved g c =
       | in-Some w ↦
           let f : SFits w32 w.in-Some.value = search rules in
           leaf_more ns c.loop-i.i (g.R.Record.shape c.args.source.now) h _ w.from-sum.result w.in-Some.value c.loop-i.invariant.1 (sym c.value.ensures ∙ w.in-Some.is) (w.from-sum.ensures ∙ to_z-of_z w32 w.in-Some.value f) _ _ c.loop-i.invariant.0 w.sum-is
-      | in-default w ↦ branch_more ns c.loop-i.i h _ _ _ c.loop-i.invariant.1 (sym c.value.ensures ∙ w.in-default.is) c.loop-i.invariant.0 w.sum-is
+      | in_default w ↦ branch_more ns c.loop-i.i h _ _ _ c.loop-i.invariant.1 (sym c.value.ensures ∙ w.in_default.is) c.loop-i.invariant.0 w.sum-is
     ]
 
 pub returns : goal.returns
