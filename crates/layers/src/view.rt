@@ -31,7 +31,7 @@ pub struct View<'r, R: Record> {
 
 // Node n, shown `base` higher up.
 fn raise<R: Record>(below: &R, n: usize, base: usize) -> Shown
-    ensures { result ≡ raised base (entry_of n (slice_index_or (nodes below.now) n no_node)) }
+    ensures { result ≡ raised base (entry_of n (slice_index_or (R.nodes below.now) n no_node)) }
 {
     let depth = below.depth(n).saturating_sub(base);
     let inner = below.value(n).is_none();
@@ -45,7 +45,7 @@ fn raise<R: Record>(below: &R, n: usize, base: usize) -> Shown
 impl<'r, R: Record> View<'r, R> {
     // How many nodes are shown.
     fn len(&self) -> usize
-        ensures { result ≡ length (view_nodes self.now.reach self.now.shown.items (nodes self.now.below.now)) }
+        ensures { result ≡ length (view_nodes self.now.reach self.now.shown.items (R.nodes self.now.below.now)) }
     {
         if self.reach <= self.below.count() {
             self.shown.len()
@@ -56,7 +56,7 @@ impl<'r, R: Record> View<'r, R> {
 
     // Node n, if there is one.
     fn seen(&self, n: usize) -> Option<Shown>
-        ensures { Seen self.now.reach self.now.shown.items (nodes self.now.below.now) (places self.now.below.now) n result }
+        ensures { Seen self.now.reach self.now.shown.items (R.nodes self.now.below.now) (R.places self.now.below.now) n result }
     {
         if self.reach <= self.below.count() && n < self.shown.len() {
             Some(self.shown[n])
@@ -67,13 +67,13 @@ impl<'r, R: Record> View<'r, R> {
 }
 
 impl<'r, R: Record> Record for View<'r, R> {
-    ghost nodes = { λ v. view_nodes v.reach v.shown.items (R.Record.nodes v.below.now) };
+    ghost nodes = { λ v. view_nodes v.reach v.shown.items (R.nodes v.below.now) };
 
-    ghost places = { λ v. view_places v.reach v.shown.items (R.Record.nodes v.below.now) (R.Record.places v.below.now) };
+    ghost places = { λ v. view_places v.reach v.shown.items (R.nodes v.below.now) (R.places v.below.now) };
 
-    ghost shape = { λ v. view_shape v.reach v.shown.items (R.Record.nodes v.below.now) (R.Record.shape v.below.now) v.few v.ok };
+    ghost shape = { λ v. view_shape v.reach v.shown.items (R.nodes v.below.now) (R.shape v.below.now) v.few v.ok };
 
-    ghost placed = { λ v. view_level v.reach v.shown.items (R.Record.nodes v.below.now) (R.Record.places v.below.now) };
+    ghost placed = { λ v. view_level v.reach v.shown.items (R.nodes v.below.now) (R.places v.below.now) };
 
     fn count(&self) -> usize {
         self.len()

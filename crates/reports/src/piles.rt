@@ -25,7 +25,7 @@ fn list_summed<R: Record, N: Names>(
     names: &N,
     with_total: bool,
 ) -> Result<Vec<u8>, AllocError>
-    ensures { IfOk result (λ v. v.items ≡ summed (found (N.Names.stands names.now)) with_total (nodes source.now) (places source.now)) }
+    ensures { IfOk result (λ v. v.items ≡ summed (found (N.stands names.now)) with_total (R.nodes source.now) (R.places source.now)) }
 {
     let mut out = list_record(heap, source, names)?;
     if with_total {
@@ -41,7 +41,7 @@ fn list_hidden<R: Record, N: Names>(
     names: &N,
     asked: Asked<'_>,
 ) -> Result<Vec<u8>, AllocError>
-    ensures { IfOk result (λ v. v.items ≡ with_hidden (found (N.Names.stands names.now)) asked.entry.total asked.entry.hide.now (nodes source.now) (places source.now)) }
+    ensures { IfOk result (λ v. v.items ≡ with_hidden (found (N.stands names.now)) asked.entry.total asked.entry.hide.now (R.nodes source.now) (R.places source.now)) }
 {
     let view = View::hide(heap, source, asked.hide)?;
     list_summed(heap, &view, names, asked.total)
@@ -54,7 +54,7 @@ pub fn list_asked<R: Record, N: Names>(
     names: &N,
     asked: Asked<'_>,
 ) -> Result<Vec<u8>, AllocError>
-    ensures { IfOk result (λ v. v.items ≡ with_cut (found (N.Names.stands names.now)) asked.entry.total asked.entry.hide.now asked.entry.cut (nodes source.now) (places source.now)) }
+    ensures { IfOk result (λ v. v.items ≡ with_cut (found (N.stands names.now)) asked.entry.total asked.entry.hide.now asked.entry.cut (R.nodes source.now) (R.places source.now)) }
 {
     let Some(n) = asked.cut else {
         return list_hidden(heap, source, names, asked);

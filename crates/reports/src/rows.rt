@@ -18,7 +18,7 @@ pub trait Names {
 
 // The name, if it is that of node n.
 fn own_name<'a, R: Record>(source: &R, n: usize, name: &'a [u8]) -> &'a [u8]
-    ensures { result.now ≡ (if named_at (nodes source.now) n name.now then name.now else codes "?") }
+    ensures { result.now ≡ (if named_at (R.nodes source.now) n name.now then name.now else codes "?") }
 {
     if source.is_named(n, name) { name } else { b"?" }
 }
@@ -31,7 +31,7 @@ fn push_record_line<R: Record, N: Names>(
     names: &N,
     n: usize,
 ) -> Result<(), AllocError>
-    ensures { OnOk result (out.new.items ≡ out.old.items ++ record_line (found (N.Names.stands names.now)) (nodes source.now) (places source.now) n) }
+    ensures { OnOk result (out.new.items ≡ out.old.items ++ record_line (found (N.stands names.now)) (R.nodes source.now) (R.places source.now) n) }
 {
     let place = source.place(n);
     let front = Front {
@@ -50,7 +50,7 @@ fn push_record<R: Record, N: Names>(
     source: &R,
     names: &N,
 ) -> Result<(), AllocError>
-    ensures { OnOk result (out.new.items ≡ out.old.items ++ record_lines (found (N.Names.stands names.now)) (nodes source.now) (places source.now) 0 (length (nodes source.now))) }
+    ensures { OnOk result (out.new.items ≡ out.old.items ++ record_lines (found (N.stands names.now)) (R.nodes source.now) (R.places source.now) 0 (length (R.nodes source.now))) }
 {
     for n in 0..source.count() {
         push_record_line(heap, out, source, names, n)?;
@@ -64,7 +64,7 @@ pub fn list_record<R: Record, N: Names>(
     source: &R,
     names: &N,
 ) -> Result<Vec<u8>, AllocError>
-    ensures { IfOk result (λ v. v.items ≡ record_listing (found (N.Names.stands names.now)) (nodes source.now) (places source.now)) }
+    ensures { IfOk result (λ v. v.items ≡ record_listing (found (N.stands names.now)) (R.nodes source.now) (R.places source.now)) }
 {
     let mut out = Vec::new(heap);
     push_record(heap, &mut out, source, names)?;

@@ -18,8 +18,8 @@ pub struct Passage {
 
 // What hiding does at node n, where nodes deeper than `limit` are being left out.
 fn pass<R: Record>(below: &R, n: usize, name: &[u8], limit: usize) -> Passage
-    ensures shows { result.shows ≡ (if nat_lt limit (depth_at (nodes below.now) n) then false else (if named_at (nodes below.now) n name.now then false else true)) }
-    ensures limit { result.limit ≡ (if nat_lt limit (depth_at (nodes below.now) n) then limit else (if named_at (nodes below.now) n name.now then depth_at (nodes below.now) n else most_levels)) }
+    ensures shows { result.shows ≡ (if nat_lt limit (depth_at (R.nodes below.now) n) then false else (if named_at (R.nodes below.now) n name.now then false else true)) }
+    ensures limit { result.limit ≡ (if nat_lt limit (depth_at (R.nodes below.now) n) then limit else (if named_at (R.nodes below.now) n name.now then depth_at (R.nodes below.now) n else most_levels)) }
 {
     let depth = below.depth(n);
     if depth > limit {
@@ -42,7 +42,7 @@ fn pass<R: Record>(below: &R, n: usize, name: &[u8], limit: usize) -> Passage
 
 // The nodes that are left.
 fn kept<R: Record>(heap: Global, below: &R, name: &[u8]) -> Result<Vec<Shown>, AllocError>
-    ensures { IfOk result (λ v. v.items ≡ without name.now (nodes below.now) (entries 0 (nodes below.now))) }
+    ensures { IfOk result (λ v. v.items ≡ without name.now (R.nodes below.now) (entries 0 (R.nodes below.now))) }
 {
     let mut shown = Vec::new(heap);
     let mut limit = MOST_LEVELS;
@@ -59,7 +59,7 @@ fn kept<R: Record>(heap: Global, below: &R, name: &[u8]) -> Result<Vec<Shown>, A
 impl<'r, R: Record> View<'r, R> {
     // Leaves out every node of the name, with all beneath it. A name that is no word hides nothing, since no node has it.
     pub fn hide(heap: Global, below: &'r R, name: &[u8]) -> Result<View<'r, R>, AllocError>
-        ensures { IfOk result (λ v. Hides name.now (nodes below.now) (places below.now) (view_nodes v.reach v.shown.items (nodes v.below.now)) (view_places v.reach v.shown.items (nodes v.below.now) (places v.below.now))) }
+        ensures { IfOk result (λ v. Hides name.now (R.nodes below.now) (R.places below.now) (view_nodes v.reach v.shown.items (R.nodes v.below.now)) (view_places v.reach v.shown.items (R.nodes v.below.now) (R.places v.below.now))) }
     {
         let shown = kept(heap, below, name)?;
         let reach = below.count();

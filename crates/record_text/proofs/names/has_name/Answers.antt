@@ -7,4 +7,4 @@ use Rattle.record_text.proofs.names.has_name.Goals as goal
 pub returns : goal.returns
 returns c =
     same_from_decides _ _ (slice_eq-Decides Decides-eqb _ _ _ c.eq.ensures) (compares_Decides same (search rules) _ _)
-    ∙ ap (same c.args.name.now) c.bytes-after-opened.ensures
+    ∙ ap (same c.args.name.now) c.bytes_after-opened.ensures

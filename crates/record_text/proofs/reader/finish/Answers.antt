@@ -20,9 +20,9 @@ returns-in-Tag c =
     let t = c.args.text.now in
     ap outcome (sym (ended_tag t c.args.cutter.now c.requires.0 (shape_of t c.args.nest.now) c.in-Tag.start c.in-Tag.is))
 
-pub returns-in-default : goal.returns-in-default
-returns-in-default c =
+pub returns-in_default : goal.returns-in_default
+returns-in_default c =
     let t = c.args.text.now in
     c.end-in-Number.ensures
     ∙ ap outcome (sym (ended_number t c.args.cutter.now c.requires.0 (shape_of t c.args.nest.now) c.in-Number.start c.in-Number.is
-    (shape_of t c.number.new.self) c.requires.1.0.1 c.number.result c.in-default.not-Misfit (c.number.ensures.went t)))
+    (shape_of t c.number.new.self) c.requires.1.0.1 c.number.result c.in_default.not-Misfit (c.number.ensures.went t)))

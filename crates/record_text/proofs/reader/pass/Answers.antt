@@ -12,7 +12,7 @@ returns c =
     let l = c.loop-cutter in
     let e = done_ended t l.cutter (shape_of t l.nest) (omega arith) in
     record {
-      answer = c.in-ok-nodes.ensures ∙ ap outcome l.invariant.2;
+      answer = c.in_ok-nodes.ensures ∙ ap outcome l.invariant.2;
       filled = λ _. ap (λ d. written d l.list) (sym e) ∙ l.invariant.3;
       compared = (λ s. l.invariant.4 (s, subst (λ d. Agrees d c.args.held.now) (sym e) tt), λ a. (l.invariant.5 a).0);
     }

@@ -44,20 +44,20 @@ pub returns-then-n-eq0 : goal.returns-then-n-eq0
 unfolding tag_of
 returns-then-n-eq0 c = sym (ap (λ l. form (tag_of l)) (nil_from_length c.args.body.now c.if-n-eq0.true))
 
-pub returns-then-is-word : goal.returns-then-is-word
-returns-then-is-word c = closing_form c.args.body.now true c.if-n-eq0.false c.if-is-slash.ensures c.if-is-word.ensures
+pub returns-then-is_word : goal.returns-then-is_word
+returns-then-is_word c = closing_form c.args.body.now true c.if-n-eq0.false c.if-is_slash.ensures c.if-is_word.ensures
 
-pub returns-else-is-word : goal.returns-else-is-word
-returns-else-is-word c = closing_form c.args.body.now false c.if-n-eq0.false c.if-is-slash.ensures c.if-is-word.ensures
+pub returns-else-is_word : goal.returns-else-is_word
+returns-else-is_word c = closing_form c.args.body.now false c.if-n-eq0.false c.if-is_slash.ensures c.if-is_word.ensures
 
-pub returns-then-is-word-2 : goal.returns-then-is-word-2
-returns-then-is-word-2 c = alone_form c.args.body.now true c.if-n-eq0.false c.if-is-slash.ensures c.if-is-slash-2.ensures c.if-is-word-2.ensures
+pub returns-then-is_word-2 : goal.returns-then-is_word-2
+returns-then-is_word-2 c = alone_form c.args.body.now true c.if-n-eq0.false c.if-is_slash.ensures c.if-is_slash-2.ensures c.if-is_word-2.ensures
 
-pub returns-else-is-word-2 : goal.returns-else-is-word-2
-returns-else-is-word-2 c = alone_form c.args.body.now false c.if-n-eq0.false c.if-is-slash.ensures c.if-is-slash-2.ensures c.if-is-word-2.ensures
+pub returns-else-is_word-2 : goal.returns-else-is_word-2
+returns-else-is_word-2 c = alone_form c.args.body.now false c.if-n-eq0.false c.if-is_slash.ensures c.if-is_slash-2.ensures c.if-is_word-2.ensures
 
-pub returns-then-is-word-3 : goal.returns-then-is-word-3
-returns-then-is-word-3 c = opening_form c.args.body.now true c.if-n-eq0.false c.if-is-slash.ensures c.if-is-slash-2.ensures c.if-is-word-3.ensures
+pub returns-then-is_word-3 : goal.returns-then-is_word-3
+returns-then-is_word-3 c = opening_form c.args.body.now true c.if-n-eq0.false c.if-is_slash.ensures c.if-is_slash-2.ensures c.if-is_word-3.ensures
 
-pub returns-else-is-word-3 : goal.returns-else-is-word-3
-returns-else-is-word-3 c = opening_form c.args.body.now false c.if-n-eq0.false c.if-is-slash.ensures c.if-is-slash-2.ensures c.if-is-word-3.ensures
+pub returns-else-is_word-3 : goal.returns-else-is_word-3
+returns-else-is_word-3 c = opening_form c.args.body.now false c.if-n-eq0.false c.if-is_slash.ensures c.if-is_slash-2.ensures c.if-is_word-3.ensures

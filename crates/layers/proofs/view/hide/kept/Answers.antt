@@ -5,7 +5,7 @@ use Rattle.layers.specs.Views.{entry_of}
 use Rattle.layers.proofs.Entries.{raised_none}
 use Rattle.layers.proofs.Hiding.{to_come, come_passes, come_all, step_skip, step_push}
 use Rattle.layers.proofs.view.hide.kept.Goals as goal
-use Rattle.layers.proofs.view.hide.kept.Goals.{then-passage+in-ok-push, else-passage}
+use Rattle.layers.proofs.view.hide.kept.Goals.{then-passage+in_ok-push, else-passage}
 
 pub loop-n-preserved : goal.loop-n-preserved
 loop-n-preserved g c =
@@ -20,9 +20,9 @@ loop-n-preserved g c =
     let s = entry_of i (get_or ns i no_node) in
     let more = come_passes key ns limit i h p.shows p.limit c.pass-passage.ensures.shows c.pass-passage.ensures.limit in
     elim c.if-passage.branch [
-      | then-passage+in-ok-push w ↦
+      | then-passage+in_ok-push w ↦
           step_push key ns items items' limit p.limit i c.loop-n.invariant s
-          (ap vec_items w.shown-is ∙ (w.in-ok-push.ensures.items ∙ ap (λ (t : Shown). items ++ t ∷ []) (w.raise.ensures ∙ raised_none s)))
+          (ap vec_items w.shown-is ∙ (w.in_ok-push.ensures.items ∙ ap (λ (t : Shown). items ++ t ∷ []) (w.raise.ensures ∙ raised_none s)))
           (more ∙ ap (λ (b : Bool). cond b (s ∷ to_come key ns p.limit (i + 1)) (to_come key ns p.limit (i + 1))) w.if-passage.true)
       | else-passage w ↦
           step_skip key ns items items' limit p.limit i c.loop-n.invariant (ap vec_items w.shown-is)

@@ -41,7 +41,7 @@ pub returns-in-Between-Blank : goal.returns-in-Between-Blank
 returns-in-Between-Blank c =
     let t = c.args.text.now in
     let at = c.args.self.now.at in
-    let r = role_is (get_or t at 0) c.kind-of.result c.kind-of.ensures ∙ ap of_kind c.in-Between-Blank.is-1 in
+    let r = role_is (get_or t at 0) c.kind_of.result c.kind_of.ensures ∙ ap of_kind c.in-Between-Blank.is-1 in
     let w = stays t at c.args.self.now.state state.Between c.in-Between-Blank.is-0 ended.Blank (between_blank t at c.requires.0 r) in
     record { good = w.0; falls = w.1; cuts = w.2 }
 
@@ -49,7 +49,7 @@ pub returns-in-Between-Less : goal.returns-in-Between-Less
 returns-in-Between-Less c =
     let t = c.args.text.now in
     let at = c.args.self.now.at in
-    let r = role_is (get_or t at 0) c.kind-of.result c.kind-of.ensures ∙ ap of_kind c.in-Between-Less.is-1 in
+    let r = role_is (get_or t at 0) c.kind_of.result c.kind_of.ensures ∙ ap of_kind c.in-Between-Less.is-1 in
     let w = leaves t at c.args.self.now.state state.Between c.in-Between-Less.is-0 (at + 1) (state.Tag at) ended.Nothing (between_less t at c.requires.0 r) in
     record { good = w.0; falls = w.1; cuts = w.2 }
 
@@ -57,7 +57,7 @@ pub returns-in-Between-Digit : goal.returns-in-Between-Digit
 returns-in-Between-Digit c =
     let t = c.args.text.now in
     let at = c.args.self.now.at in
-    let r = role_is (get_or t at 0) c.kind-of.result c.kind-of.ensures ∙ figure_key c.kind-of.result (search rules) in
+    let r = role_is (get_or t at 0) c.kind_of.result c.kind_of.ensures ∙ figure_key c.kind_of.result (search rules) in
     let w = leaves t at c.args.self.now.state state.Between c.in-Between-Digit.is-0 (at + 1) (state.Number at) ended.Nothing (between_figure t at c.requires.0 r) in
     record { good = w.0; falls = w.1; cuts = w.2 }
 
@@ -65,7 +65,7 @@ pub returns-in-Between-default : goal.returns-in-Between-default
 returns-in-Between-default c =
     let t = c.args.text.now in
     let at = c.args.self.now.at in
-    let r = stray_is (get_or t at 0) c.kind-of.result c.kind-of.ensures (stray_key c.kind-of.result (search rules)) in
+    let r = stray_is (get_or t at 0) c.kind_of.result c.kind_of.ensures (stray_key c.kind_of.result (search rules)) in
     let w = stays t at c.args.self.now.state state.Between c.in-Between-default.is-0 ended.Stray (between_stray t at c.requires.0 r) in
     record { good = w.0; falls = w.1; cuts = w.2 }
 
@@ -75,7 +75,7 @@ returns-in-Tag-Greater c =
     let at = c.args.self.now.at in
     let start = c.in-Tag-Greater.start in
     let g = begun_tag at c.args.self.now.state start c.in-Tag-Greater.is-0 c.requires.1.1 in
-    let r = role_is (get_or t at 0) c.kind-of.result c.kind-of.ensures ∙ ap of_kind c.in-Tag-Greater.is-1 in
+    let r = role_is (get_or t at 0) c.kind_of.result c.kind_of.ensures ∙ ap of_kind c.in-Tag-Greater.is-1 in
     let w = leaves t at c.args.self.now.state (state.Tag start) c.in-Tag-Greater.is-0 (at + 1) state.Between (ended.Tag start) (tag_ends t at c.requires.0 start g r) in
     record { good = w.0; falls = w.1; cuts = w.2 }
 
@@ -85,7 +85,7 @@ returns-in-Tag-default c =
     let at = c.args.self.now.at in
     let start = c.in-Tag-default.field-0-0 in
     let g = begun_tag at c.args.self.now.state start c.in-Tag-default.is-0 c.requires.1.1 in
-    let r = role_not (get_or t at 0) c.kind-of.result c.kind-of.ensures greater (no_greater_key c.kind-of.result (search rules)) in
+    let r = role_not (get_or t at 0) c.kind_of.result c.kind_of.ensures greater (no_greater_key c.kind_of.result (search rules)) in
     let w = stays t at c.args.self.now.state (state.Tag start) c.in-Tag-default.is-0 ended.Nothing (tag_goes_on t at c.requires.0 start g r) in
     record { good = w.0; falls = w.1; cuts = w.2 }
 
@@ -95,7 +95,7 @@ returns-in-Number-Digit c =
     let at = c.args.self.now.at in
     let start = c.in-Number-Digit.field-0-0 in
     let g = begun_number at c.args.self.now.state start c.in-Number-Digit.is-0 c.requires.1.1 in
-    let r = role_is (get_or t at 0) c.kind-of.result c.kind-of.ensures ∙ figure_key c.kind-of.result (search rules) in
+    let r = role_is (get_or t at 0) c.kind_of.result c.kind_of.ensures ∙ figure_key c.kind_of.result (search rules) in
     let w = stays t at c.args.self.now.state (state.Number start) c.in-Number-Digit.is-0 ended.Nothing (number_goes_on t at c.requires.0 start g r) in
     record { good = w.0; falls = w.1; cuts = w.2 }
 
@@ -105,6 +105,6 @@ returns-in-Number-default c =
     let at = c.args.self.now.at in
     let start = c.in-Number-default.start in
     let g = begun_number at c.args.self.now.state start c.in-Number-default.is-0 c.requires.1.1 in
-    let r = role_not (get_or t at 0) c.kind-of.result c.kind-of.ensures figure (no_figure_key c.kind-of.result (search rules)) in
+    let r = role_not (get_or t at 0) c.kind_of.result c.kind_of.ensures figure (no_figure_key c.kind_of.result (search rules)) in
     let w = leaves t at c.args.self.now.state (state.Number start) c.in-Number-default.is-0 at state.Between (ended.Number start) (number_ends t at c.requires.0 start g r) in
     record { good = w.0; falls = w.1; cuts = w.2 }

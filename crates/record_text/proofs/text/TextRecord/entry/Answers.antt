@@ -11,5 +11,5 @@ returns c =
     let t = x.text.now in
     let es = take x.count x.list.now in
     let n = c.args.n in
-    let e : c.entry-at.result ≡ get_or es n no_entry = c.entry-at.ensures ∙ ap (λ l. get_or l n no_entry) c.entries.ensures in
+    let e : c.entry_at.result ≡ get_or es n no_entry = c.entry_at.ensures ∙ ap (λ l. get_or l n no_entry) c.entries.ensures in
     record { node = ap (text_node t) e ∙ node_at t es n; place = ap (λ (y : Entry). y.start) e ∙ place_at es n }

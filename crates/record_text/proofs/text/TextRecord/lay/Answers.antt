@@ -8,12 +8,12 @@ err_from : (r : Result (Unit {0}) Refusal) (e : Refusal) → IsErrAnd r (λ f. f
 err_from (Ok n) e h = absurd h
 err_from (Err f) e h = ap Err h
 
-pub returns-in-err-count : goal.returns-in-err-count
-returns-in-err-count c =
+pub returns-in_err-count : goal.returns-in_err-count
+returns-in_err-count c =
     let t = c.args.text.now in
     let l = c.args.list.now in
     let x = c.args.self.now in
-    let e = c.in-err-count.field-0.0 in
-    let f = c.in-err-count.ensures in
-    let q : c.from-residual.result ≡ Err e = err_from c.from-residual.result e c.from-residual.ensures.1 in
+    let e = c.in_err-count.field-0.0 in
+    let f = c.in_err-count.ensures in
+    let q : c.from_residual.result ≡ Err e = err_from c.from_residual.result e c.from_residual.ensures.1 in
     record { laid = subst (λ r. Laid t l r x x) (sym q) (f.agreed, refl); settled = subst (λ r. Settled t l (refusal_of r)) (sym q) f.settled }
