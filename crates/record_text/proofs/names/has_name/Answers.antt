@@ -6,5 +6,7 @@ use Rattle.record_text.proofs.names.has_name.Goals as goal
 
 pub returns : goal.returns
 returns c =
-    same_from_decides _ _ (slice_eq-Decides Decides-eqb _ _ _ c.eq.ensures) (compares_Decides same (search rules) _ _)
-    ∙ ap (same c.args.name.now) c.bytes_after-opened.ensures
+    let name = c.args.name.now in
+    let found = c.bytes_after-opened.result.now in
+    same_from_decides c.eq.result (same name found) (slice_eq-Decides Decides-eqb name found c.eq.result c.eq.ensures) (compares_Decides same (search rules) name found)
+    ∙ ap (same name) c.bytes_after-opened.ensures

@@ -21,7 +21,7 @@ returns c =
     let e = c.push.ensures in
     let os = held s.tags in
     let fits : c.push.result ≡ true = has_room s.nodes (length os) (room s.tags) c.push.result c.if-is_full.ensures c.requires e.test in
-    let o : OpenTag = record { place = c.args.place; name_len = c.args.name-len; node = s.nodes } in
+    let o : OpenTag = record { place = c.args.place; name_len = c.args.name_len; node = s.nodes } in
     let more : held c.push.new.self ≡ os ++ o ∷ [] = e.held ∙ ap (λ b. cond b (os ++ o ∷ []) os) fits in
     record {
       ready = e.room ∙ c.requires;
