@@ -12,4 +12,4 @@ returns c r =
     let y = c.lay.new.self in
     let a = c.args.asked in
     let k = laid_entries x l c.lay.result c.empty-record.result y c.lay.ensures.laid c.lay.ensures.settled l r (take_all (length l) l (omega arith)) in
-    text_laid vec_items c.list-asked.result a.total a.hide.now a.cut x (text_of y) l (entries_of y) r k.0 k.1 c.list-asked.ensures
+    text_laid vec_items c.list_asked.result a.total a.hide.now a.cut x (text_of y) l (entries_of y) r k.0 k.1 c.list_asked.ensures

@@ -8,7 +8,7 @@ pub returns-in-Ok : goal.returns-in-Ok
 returns-in-Ok c =
     let x = c.args.text.now in
     let a = c.args.asked in
-    nodes_reported vec_items (text_listing a.total a.hide.now a.cut x) x _ _ _ c.in-Ok.nodes c.list-text.result c.in-Ok.ensures (search (rules, with_items_is)) c.list-text.ensures
+    nodes_reported vec_items (text_listing a.total a.hide.now a.cut x) x _ _ _ c.in-Ok.nodes c.list_text.result c.in-Ok.ensures (search (rules, with_items_is)) c.list_text.ensures
 
 pub returns : goal.returns
 returns c =

@@ -33,18 +33,18 @@ module _ (s : List ℕ) (i : ℕ) (h : i < length s) (inv : take i s ++ word_fro
       ap (λ l. l ++ word_front (drop (i + 1) s)) (take_more s i 0 h)
       ∙ (append_assoc (take i s) (get_or s i 0 ∷ []) (word_front (drop (i + 1) s)) ∙ (ap (λ l. take i s ++ l) (sym (next true e)) ∙ inv))
 
-pub returns-in-default : goal.returns-in-default
-returns-in-default c =
+pub returns-in_default : goal.returns-in_default
+returns-in_default c =
     let s = c.args.bytes.now in
     let i = c.loop-i.i in
-    let g = ap continues_word (sym c.kind-of.ensures) ∙ goes_not c.kind-of.result c.in-default.not-Letter c.in-default.not-Digit c.in-default.not-Hyphen in
+    let g = ap continues_word (sym c.kind_of.ensures) ∙ goes_not c.kind_of.result c.in_default.not-Letter c.in_default.not-Digit c.in_default.not-Hyphen in
     record { within = omega arith; front = stops s i (omega arith) c.loop-i.invariant g }
 
 pub loop-i-preserved : goal.loop-i-preserved
 loop-i-preserved c =
     let s = c.args.bytes.now in
     let i = c.loop-i.i in
-    goes s i (omega arith) c.loop-i.invariant (ap continues_word (sym c.kind-of.ensures) ∙ goes_yes c.kind-of.result c.in-Letter.is)
+    goes s i (omega arith) c.loop-i.invariant (ap continues_word (sym c.kind_of.ensures) ∙ goes_yes c.kind_of.result c.in-Letter.is)
 
 pub returns : goal.returns
 returns c =
