@@ -4,10 +4,10 @@ use Rattle.pieces.proofs.Cuts.{pieces_spelled}
 use Rattle.pieces.proofs.Lexing.{one_more, no_more}
 use Rattle.pieces.proofs.cutting.cut.Goals as goal
 
-pub loop-at-preserved-in-ok-push : goal.loop-at-preserved-in-ok-push
-loop-at-preserved-in-ok-push c =
+pub loop-at-preserved-in_ok-push : goal.loop-at-preserved-in_ok-push
+loop-at-preserved-in_ok-push c =
     one_more (vec_items c.loop-at.tokens) (vec_items c.push.new.self) c.in-Some.token c.lexeme-token.result.0 _ _ _
-    c.in-Some.is c.lexeme-token.ensures.same c.in-ok-push.ensures.items c.loop-at.invariant
+    c.in-Some.is c.lexeme-token.ensures.same c.in_ok-push.ensures.items c.loop-at.invariant
 
 pub returns : goal.returns
 returns c =

@@ -7,13 +7,13 @@ use Rattle.pieces.proofs.cutting.run_end.Goals as goal
 pub loop-i-init : goal.loop-i-init
 loop-i-init c = (run_begins c.args.run c.args.text.now c.args.at c.requires, refl)
 
-pub returns-then-not-goes-on : goal.returns-then-not-goes-on
-returns-then-not-goes-on c =
+pub returns-then-not-goes_on : goal.returns-then-not-goes_on
+returns-then-not-goes_on c =
     let t = c.args.text.now in
     let at = c.args.at in
     let i = c.loop-i.i in
     let l : at < i = omega arith in
-    let e : carries c.args.run (kind (get_or t i 0)) ≡ false = ap (carries c.args.run) (sym c.kind-of.ensures) ∙ sym c.if-not-goes-on.ensures in
+    let e : carries c.args.run (kind (get_or t i 0)) ≡ false = ap (carries c.args.run) (sym c.kind_of.ensures) ∙ sym c.if-not-goes_on.ensures in
     record {
       further = l;
       within = omega arith;
@@ -27,7 +27,7 @@ loop-i-preserved c =
     let at = c.args.at in
     let i = c.loop-i.i in
     let l : at < i = omega arith in
-    let e : carries c.args.run (kind (get_or t i 0)) ≡ true = ap (carries c.args.run) (sym c.kind-of.ensures) ∙ sym c.if-not-goes-on.ensures in (
+    let e : carries c.args.run (kind (get_or t i 0)) ≡ true = ap (carries c.args.run) (sym c.kind_of.ensures) ∙ sym c.if-not-goes_on.ensures in (
       run_grows c.args.run t at i l c.loop-i-test.true e ∙ c.loop-i.invariant.0,
       c.loop-i.invariant.1 ∙ after_grows c.args.run t at i l c.loop-i-test.true e,
     )

@@ -4,6 +4,6 @@ use Rattle.contents.proofs.queries.Expression+u16.closes.Goals as goal
 
 pub returns : goal.returns
 returns c = record {
-  means = told_closes (content c.args.self.now) c.args.p c.ends-with.result c.ends-with.ensures;
-  value = c.ends-with.ensures;
+  means = told_closes (content c.args.self.now) c.args.p c.ends_with.result c.ends_with.ensures;
+  value = c.ends_with.ensures;
 }

@@ -4,6 +4,6 @@ use Rattle.contents.proofs.queries.Expression+u16.follows.Goals as goal
 
 pub returns : goal.returns
 returns c = record {
-  means = told_follows (content c.args.self.now) c.args.p c.args.q c.has-pair.result c.has-pair.ensures;
-  value = c.has-pair.ensures;
+  means = told_follows (content c.args.self.now) c.args.p c.args.q c.has_pair.result c.has_pair.ensures;
+  value = c.has_pair.ensures;
 }

@@ -4,6 +4,6 @@ use Rattle.contents.proofs.queries.Expression+u16.nullable.Goals as goal
 
 pub returns : goal.returns
 returns c = record {
-  means = told_nullable (content c.args.self.now) c.has-empty.result c.has-empty.ensures;
-  value = c.has-empty.ensures;
+  means = told_nullable (content c.args.self.now) c.has_empty.result c.has_empty.ensures;
+  value = c.has_empty.ensures;
 }

@@ -4,6 +4,6 @@ use Rattle.contents.proofs.queries.Expression+u16.opens.Goals as goal
 
 pub returns : goal.returns
 returns c = record {
-  means = told_opens (content c.args.self.now) c.args.p c.begins-with.result c.begins-with.ensures;
-  value = c.begins-with.ensures;
+  means = told_opens (content c.args.self.now) c.args.p c.begins_with.result c.begins_with.ensures;
+  value = c.begins_with.ensures;
 }
