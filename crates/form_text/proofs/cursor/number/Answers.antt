@@ -19,5 +19,5 @@ returns-in-Number c =
       onward = search rules;
     }
 
-pub returns-in-default : goal.returns-in-default
-returns-in-default c = record { value = number_none c.args.tokens.now c.args.at c.if-at-tokens.false c.in-default.not-Number; onward = tt }
+pub returns-in_default : goal.returns-in_default
+returns-in_default c = record { value = number_none c.args.tokens.now c.args.at c.if-at-tokens.false c.in_default.not-Number; onward = tt }

@@ -6,9 +6,9 @@ use Rattle.form_text.proofs.cursor.past.Goals as goal
 pub returns-then-at-tokens : goal.returns-then-at-tokens
 returns-then-at-tokens c = record { value = past_end c.args.tokens.now c.args.at (byte c.args.sign) c.if-at-tokens.true; onward = tt }
 
-pub returns-in-default : goal.returns-in-default
-returns-in-default c = record {
-  value = past_none c.args.tokens.now c.args.at (byte c.args.sign) c.if-at-tokens.false c.in-default.not-Sign;
+pub returns-in_default : goal.returns-in_default
+returns-in_default c = record {
+  value = past_none c.args.tokens.now c.args.at (byte c.args.sign) c.if-at-tokens.false c.in_default.not-Sign;
   onward = tt;
 }
 

@@ -8,5 +8,5 @@ returns-then-at-tokens c = record { value = word_end c.args.tokens.now c.args.at
 pub returns-in-Word : goal.returns-in-Word
 returns-in-Word c = record { value = word_there c.args.tokens.now c.args.at c.in-Word.word c.if-at-tokens.false c.in-Word.is; onward = search rules }
 
-pub returns-in-default : goal.returns-in-default
-returns-in-default c = record { value = word_none c.args.tokens.now c.args.at c.if-at-tokens.false c.in-default.not-Word; onward = tt }
+pub returns-in_default : goal.returns-in_default
+returns-in_default c = record { value = word_none c.args.tokens.now c.args.at c.if-at-tokens.false c.in_default.not-Word; onward = tt }
