@@ -22,9 +22,9 @@ good_from bs g =
     (and_from (all_fit bs (node_count bs)) _ g.fit g.shape))))
 
 derived_good : {bs : List ℕ} {ns : List Node} → Block bs ns → (good_block bs ≡ true) × (block_nodes bs ≡ ns)
-derived_good (laid_out a b c d xs rows ws ns names-counted few names nodes-counted nodes shape) =
+derived_good (laid_out a b c d xs rows ws ns names_counted few names nodes_counted nodes shape) =
     let bs : List ℕ = a ∷ b ∷ xs in
-    let count : name_count bs ≡ length ws = names-counted in
+    let count : name_count bs ≡ length ws = names_counted in
     let read = names_read names bs 0 refl in
     let named : (j : ℕ) → j < length ws → name_of bs j ≡ get_or ws j [] = λ j l. read.named j j (omega arith) l in
     let second : drop (second_start bs) bs ≡ c ∷ d ∷ rows = read.after (name_count bs) (omega arith) in

@@ -1,14 +1,14 @@
 // The sets of a marked content, by recursion over the nodes of its expression.
 ghost use Rattle.std.specs.Prelude.{◌≡◌};
 ghost use Rattle.contents.specs.Expressions.{content};
-ghost use Rattle.contents.specs.Sets.{closes as closesOf, follows as followsOf, nullable as nullableOf, opens as opens_of};
+ghost use Rattle.contents.specs.Sets.{closes as closes_of, follows as follows_of, nullable as nullable_of, opens as opens_of};
 
 use crate::expression::Expression;
 
 impl Expression<u16> {
     // Whether the empty word is a word.
     pub(crate) fn has_empty(&self) -> bool
-        ensures { result ≡ nullableOf (content self.now) }
+        ensures { result ≡ nullable_of (content self.now) }
     {
         match self {
             Expression::Empty | Expression::Star(_) | Expression::Optional(_) => true,
@@ -34,7 +34,7 @@ impl Expression<u16> {
 
     // Whether some word ends with the occurrence `p`.
     pub(crate) fn ends_with(&self, p: u16) -> bool
-        ensures { result ≡ closesOf (content self.now) p }
+        ensures { result ≡ closes_of (content self.now) p }
     {
         match self {
             Expression::Empty => false,
@@ -47,7 +47,7 @@ impl Expression<u16> {
 
     // Whether some word has the occurrence `q` right after `p`.
     pub(crate) fn has_pair(&self, p: u16, q: u16) -> bool
-        ensures { result ≡ followsOf (content self.now) p q }
+        ensures { result ≡ follows_of (content self.now) p q }
     {
         match self {
             Expression::Empty | Expression::Item(_) => false,

@@ -2,7 +2,7 @@
 use Rattle.std.proofs.Common.{◌≡◌, ℕ, zero, suc, ◌+◌, ◌*◌, ◌<◌, true, false, cond, List, [], length, Some, None, Option as Maybe, refl, ap, ◌∙◌, not-suc-le-zero, arith}
 use Rattle.contents.specs.Contents.{empty, seq, alt, star, plus, opt}
 use Rattle.pieces.specs.Pieces.{Piece, bar, comma, asterisk, cross, question, close_round}
-use Rattle.form_grammar.specs.Grammar.{deepest, Written, Part, a-choice, a-sequence, an_item, an-atom, Reads, last_sequence, or_choice, last_item, then_sequence, plain, starred, crossed, asked, variable, bracket, Says, nothing, choice, Body, branch, Rule, Bodied, of_branch, of_leaf, Ruled, of_rule}
+use Rattle.form_grammar.specs.Grammar.{deepest, Written, Part, a_choice, a_sequence, an_item, an_atom, Reads, last_sequence, or_choice, last_item, then_sequence, plain, starred, crossed, asked, variable, bracket, Says, nothing, choice, Body, branch, Rule, Bodied, of_branch, of_leaf, Ruled, of_rule}
 use Rattle.form_grammar.specs.Parser.{when_there, ◌>>=◌, past, at_end, Got, joined, repeated, closed, parse, begins, content, content_of, body_of, rule_of_pieces}
 
 -- a part has a piece at least, and its first begins an atom
@@ -35,10 +35,10 @@ abbrev Unrepeated : List Piece → Type 0
 Unrepeated t = (past asterisk t ≡ None) × (past cross t ≡ None) × (past question t ≡ None)
 
 abbrev pub Stops : Part → List Piece → Type 0
-Stops an-atom t = Unit {0}
+Stops an_atom t = Unit {0}
 Stops an_item t = Unrepeated t
-Stops a-sequence t = (past comma t ≡ None) × Unrepeated t
-Stops a-choice t = (past bar t ≡ None) × ((past comma t ≡ None) × Unrepeated t)
+Stops a_sequence t = (past comma t ≡ None) × Unrepeated t
+Stops a_choice t = (past bar t ≡ None) × ((past comma t ≡ None) × Unrepeated t)
 
 unjoined : (b : ℕ) (join : Written → Written → Written) (more : List Piece → Got) (e : Written) (t : List Piece) → past b t ≡ None
     → ◌≡◌ {A = Got} (joined b join more (e, t)) (Some (e, t))
@@ -51,31 +51,31 @@ unrepeated e t (p, q, r) =
     ∙ ap {B = Got} (λ o. when_there o (λ u. Some (opt e, u)) (Some (e, t))) r
 
 abbrev rank : Part → ℕ
-rank a-choice = 3
-rank a-sequence = 2
+rank a_choice = 3
+rank a_sequence = 2
 rank an_item = 1
-rank an-atom = 0
+rank an_atom = 0
 
 -- with more steps than this, all of a part is read
 pub parse_complete : {k : Part} {d : ℕ} {s : List Piece} {e : Written} {t : List Piece} → Reads k d s e t → Stops k t
     → (n : ℕ) → 4 * length s + rank k < n → ◌≡◌ {A = Got} (parse n k d s) (Some (e, t))
 parse_complete (last_sequence x) h zero b = absurd (not-suc-le-zero b)
 parse_complete (last_sequence {d = d} {s = s} {t = t} {e = e} x) h (suc n) b =
-    ap {B = Got} (λ g. g >>= joined bar alt (λ t. parse n a-choice d t)) (parse_complete x h.1 n (omega arith))
-    ∙ unjoined bar alt (λ t. parse n a-choice d t) e t h.0
+    ap {B = Got} (λ g. g >>= joined bar alt (λ t. parse n a_choice d t)) (parse_complete x h.1 n (omega arith))
+    ∙ unjoined bar alt (λ t. parse n a_choice d t) e t h.0
 parse_complete (or_choice x y) h zero b = absurd (not-suc-le-zero b)
 parse_complete (or_choice {d = d} {s = s} {t = t} {u = u} {e = e} {f = f} x y) h (suc n) b =
     let l = shorter x in
-    ap {B = Got} (λ g. g >>= joined bar alt (λ t. parse n a-choice d t)) (parse_complete x (refl, (refl, refl, refl)) n (omega arith))
+    ap {B = Got} (λ g. g >>= joined bar alt (λ t. parse n a_choice d t)) (parse_complete x (refl, (refl, refl, refl)) n (omega arith))
     ∙ ap {B = Got} (λ g. g >>= (λ (p : Written × List Piece). Some (alt e p.0, p.1))) (parse_complete y h n (omega arith))
 parse_complete (last_item x) h zero b = absurd (not-suc-le-zero b)
 parse_complete (last_item {d = d} {s = s} {t = t} {e = e} x) h (suc n) b =
-    ap {B = Got} (λ g. g >>= joined comma seq (λ t. parse n a-sequence d t)) (parse_complete x h.1 n (omega arith))
-    ∙ unjoined comma seq (λ t. parse n a-sequence d t) e t h.0
+    ap {B = Got} (λ g. g >>= joined comma seq (λ t. parse n a_sequence d t)) (parse_complete x h.1 n (omega arith))
+    ∙ unjoined comma seq (λ t. parse n a_sequence d t) e t h.0
 parse_complete (then_sequence x y) h zero b = absurd (not-suc-le-zero b)
 parse_complete (then_sequence {d = d} {s = s} {t = t} {u = u} {e = e} {f = f} x y) h (suc n) b =
     let l = shorter x in
-    ap {B = Got} (λ g. g >>= joined comma seq (λ t. parse n a-sequence d t)) (parse_complete x (refl, refl, refl) n (omega arith))
+    ap {B = Got} (λ g. g >>= joined comma seq (λ t. parse n a_sequence d t)) (parse_complete x (refl, refl, refl) n (omega arith))
     ∙ ap {B = Got} (λ g. g >>= (λ (p : Written × List Piece). Some (seq e p.0, p.1))) (parse_complete y h n (omega arith))
 parse_complete (plain x) h zero b = absurd (not-suc-le-zero b)
 parse_complete (plain {d = d} {s = s} {t = t} {e = e} x) h (suc n) b = ap {B = Got} (λ g. g >>= repeated) (parse_complete x tt n (omega arith)) ∙ unrepeated e t h
@@ -91,10 +91,10 @@ parse_complete (bracket x) h zero b = absurd (not-suc-le-zero b)
 parse_complete (bracket x) h (suc n) b = ap {B = Got} (λ g. g >>= closed) (parse_complete x (refl, (refl, (refl, refl, refl))) n (omega arith))
 
 -- contents, bodies and rules
-pub content_complete : {s : List Piece} {e : Written} {t : List Piece} → Says s e t → begins t ≡ false → Stops a-choice t → ◌≡◌ {A = Got} (content s) (Some (e, t))
-content_complete (nothing {t = t}) h k = ap {B = Got} (λ b. cond b (parse (4 + 4 * length t) a-choice deepest t) (Some (empty, t))) h
+pub content_complete : {s : List Piece} {e : Written} {t : List Piece} → Says s e t → begins t ≡ false → Stops a_choice t → ◌≡◌ {A = Got} (content s) (Some (e, t))
+content_complete (nothing {t = t}) h k = ap {B = Got} (λ b. cond b (parse (4 + 4 * length t) a_choice deepest t) (Some (empty, t))) h
 content_complete (choice {s = s} {t = t} {e = e} x) h k =
-    ap {B = Got} (λ b. cond b (parse (4 + 4 * length s) a-choice deepest s) (Some (empty, s))) (begun x) ∙ parse_complete x k (4 + 4 * length s) (omega arith)
+    ap {B = Got} (λ b. cond b (parse (4 + 4 * length s) a_choice deepest s) (Some (empty, s))) (begun x) ∙ parse_complete x k (4 + 4 * length s) (omega arith)
 
 pub content_of_complete : {s : List Piece} {e : Written} → Says s e [] → content_of s ≡ Some e
 content_of_complete x = ap (λ (g : Got). g >>= (λ (p : Written × List Piece). at_end p.0 p.1)) (content_complete x refl (refl, (refl, (refl, refl, refl))))

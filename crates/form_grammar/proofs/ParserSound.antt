@@ -2,7 +2,7 @@
 use Rattle.std.proofs.Common.{◌≡◌, ℕ, zero, suc, ◌+◌, ◌*◌, Bool, true, false, cond, eqb, List, [], ◌∷◌, length, ℤ, Some, None, Option as Maybe, sym, refl, ap, ◌∙◌, subst, eqb-true}
 use Rattle.contents.specs.Contents.{empty, item, seq, alt}
 use Rattle.pieces.specs.Pieces.{Piece, word, number, sign, unfit, equals, bar, comma, asterisk, cross, question, open_round, close_round, open_square, close_square}
-use Rattle.form_grammar.specs.Grammar.{deepest, Written, Part, a-choice, a-sequence, an_item, an-atom, Reads, last_sequence, or_choice, last_item, then_sequence, plain, starred, crossed, asked, variable, bracket, Says, nothing, choice, Body, branch, leaf, Bodied, of_branch, of_leaf, Ruled, of_rule}
+use Rattle.form_grammar.specs.Grammar.{deepest, Written, Part, a_choice, a_sequence, an_item, an_atom, Reads, last_sequence, or_choice, last_item, then_sequence, plain, starred, crossed, asked, variable, bracket, Says, nothing, choice, Body, branch, leaf, Bodied, of_branch, of_leaf, Ruled, of_rule}
 use Rattle.form_grammar.specs.Parser.{when_there, ◌>>=◌, past, first_word, first_number, at_end, Got, joined, repeated, closed, bracketed, atom, parse, begins, content, content_of, branch_of, leaf_of, body_of, rule_of_pieces}
 
 -- what is there is as P says
@@ -69,51 +69,51 @@ joined_sound b join more P Q alone go (e, s) x =
     (λ t q. then_held (Both (λ f u. Q (join e f) u)) (Both Q) (more t) _ (go e t (subst (P e) q x)) (λ p y. y))
     (alone e s x)
 
-repeated_sound : (d : ℕ) (s : List Piece) (p : Written × List Piece) → Both (Reads an-atom d s) p → Held (Both (Reads an_item d s)) (repeated p)
+repeated_sound : (d : ℕ) (s : List Piece) (p : Written × List Piece) → Both (Reads an_atom d s) p → Held (Both (Reads an_item d s)) (repeated p)
 repeated_sound d s (e, t) x =
-    when_held (λ u. t ≡ sign asterisk ∷ u) (Held (Both (Reads an_item d s))) (past asterisk t) _ _ (past_sound asterisk t) (λ u q. starred (subst (Reads an-atom d s e) q x))
-    (when_held (λ u. t ≡ sign cross ∷ u) (Held (Both (Reads an_item d s))) (past cross t) _ _ (past_sound cross t) (λ u q. crossed (subst (Reads an-atom d s e) q x))
-    (when_held (λ u. t ≡ sign question ∷ u) (Held (Both (Reads an_item d s))) (past question t) _ _ (past_sound question t) (λ u q. asked (subst (Reads an-atom d s e) q x))
+    when_held (λ u. t ≡ sign asterisk ∷ u) (Held (Both (Reads an_item d s))) (past asterisk t) _ _ (past_sound asterisk t) (λ u q. starred (subst (Reads an_atom d s e) q x))
+    (when_held (λ u. t ≡ sign cross ∷ u) (Held (Both (Reads an_item d s))) (past cross t) _ _ (past_sound cross t) (λ u q. crossed (subst (Reads an_atom d s e) q x))
+    (when_held (λ u. t ≡ sign question ∷ u) (Held (Both (Reads an_item d s))) (past question t) _ _ (past_sound question t) (λ u q. asked (subst (Reads an_atom d s e) q x))
     (plain x)))
 
 closed_sound : (P : Written → List Piece → Type 0) (p : Written × List Piece) → Both P p → Held (Both (λ e t. P e (sign close_round ∷ t))) (closed p)
 closed_sound P (e, s) x =
     then_held (λ t. s ≡ sign close_round ∷ t) (Both (λ e t. P e (sign close_round ∷ t))) (past close_round s) _ (past_sound close_round s) (λ t q. subst (P e) q x)
 
-module _ (inner : ℕ → List Piece → Got) (h : (d : ℕ) (s : List Piece) → Held (Both (Reads a-choice d s)) (inner d s)) where
-  bracketed_sound : (d : ℕ) (s : List Piece) → Held (Both (Reads an-atom d (sign open_round ∷ s))) (bracketed inner d s)
+module _ (inner : ℕ → List Piece → Got) (h : (d : ℕ) (s : List Piece) → Held (Both (Reads a_choice d s)) (inner d s)) where
+  bracketed_sound : (d : ℕ) (s : List Piece) → Held (Both (Reads an_atom d (sign open_round ∷ s))) (bracketed inner d s)
   bracketed_sound zero s = tt
   bracketed_sound (suc d) s =
-      then_held (Both (Reads a-choice d s)) (Both (Reads an-atom (suc d) (sign open_round ∷ s))) (inner d s) closed (h d s)
-      (λ p x. held_map (λ e t. Reads a-choice d s e (sign close_round ∷ t)) (Reads an-atom (suc d) (sign open_round ∷ s)) (λ e t y. bracket y) (closed p) (closed_sound (Reads a-choice d s) p x))
+      then_held (Both (Reads a_choice d s)) (Both (Reads an_atom (suc d) (sign open_round ∷ s))) (inner d s) closed (h d s)
+      (λ p x. held_map (λ e t. Reads a_choice d s e (sign close_round ∷ t)) (Reads an_atom (suc d) (sign open_round ∷ s)) (λ e t y. bracket y) (closed p) (closed_sound (Reads a_choice d s) p x))
 
-  atom_sound : (d : ℕ) (s : List Piece) → Held (Both (Reads an-atom d s)) (atom inner d s)
+  atom_sound : (d : ℕ) (s : List Piece) → Held (Both (Reads an_atom d s)) (atom inner d s)
   atom_sound d s =
-      when_held (λ (p : List ℕ × List Piece). s ≡ word p.0 ∷ p.1) (Held (Both (Reads an-atom d s))) (first_word s) _ _ (word_sound s)
-      (λ p q. subst (λ l. Reads an-atom d l (item p.0) p.1) (sym q) variable)
-      (then_held (λ t. s ≡ sign open_round ∷ t) (Both (Reads an-atom d s)) (past open_round s) (bracketed inner d) (past_sound open_round s)
-      (λ t q. subst (λ l. Held (Both (Reads an-atom d l)) (bracketed inner d t)) (sym q) (bracketed_sound d t)))
+      when_held (λ (p : List ℕ × List Piece). s ≡ word p.0 ∷ p.1) (Held (Both (Reads an_atom d s))) (first_word s) _ _ (word_sound s)
+      (λ p q. subst (λ l. Reads an_atom d l (item p.0) p.1) (sym q) variable)
+      (then_held (λ t. s ≡ sign open_round ∷ t) (Both (Reads an_atom d s)) (past open_round s) (bracketed inner d) (past_sound open_round s)
+      (λ t q. subst (λ l. Held (Both (Reads an_atom d l)) (bracketed inner d t)) (sym q) (bracketed_sound d t)))
 
 pub parse_sound : (n : ℕ) (k : Part) (d : ℕ) (s : List Piece) → Held (Both (Reads k d s)) (parse n k d s)
 parse_sound zero k d s = tt
-parse_sound (suc n) a-choice d s =
-    then_held (Both (Reads a-sequence d s)) (Both (Reads a-choice d s)) (parse n a-sequence d s) _ (parse_sound n a-sequence d s)
-    (joined_sound bar alt (λ t. parse n a-choice d t) (Reads a-sequence d s) (Reads a-choice d s) (λ e t x. last_sequence x)
-    (λ e t x. held_map (Reads a-choice d t) (λ f u. Reads a-choice d s (alt e f) u) (λ f u y. or_choice x y) (parse n a-choice d t) (parse_sound n a-choice d t)))
-parse_sound (suc n) a-sequence d s =
-    then_held (Both (Reads an_item d s)) (Both (Reads a-sequence d s)) (parse n an_item d s) _ (parse_sound n an_item d s)
-    (joined_sound comma seq (λ t. parse n a-sequence d t) (Reads an_item d s) (Reads a-sequence d s) (λ e t x. last_item x)
-    (λ e t x. held_map (Reads a-sequence d t) (λ f u. Reads a-sequence d s (seq e f) u) (λ f u y. then_sequence x y) (parse n a-sequence d t) (parse_sound n a-sequence d t)))
+parse_sound (suc n) a_choice d s =
+    then_held (Both (Reads a_sequence d s)) (Both (Reads a_choice d s)) (parse n a_sequence d s) _ (parse_sound n a_sequence d s)
+    (joined_sound bar alt (λ t. parse n a_choice d t) (Reads a_sequence d s) (Reads a_choice d s) (λ e t x. last_sequence x)
+    (λ e t x. held_map (Reads a_choice d t) (λ f u. Reads a_choice d s (alt e f) u) (λ f u y. or_choice x y) (parse n a_choice d t) (parse_sound n a_choice d t)))
+parse_sound (suc n) a_sequence d s =
+    then_held (Both (Reads an_item d s)) (Both (Reads a_sequence d s)) (parse n an_item d s) _ (parse_sound n an_item d s)
+    (joined_sound comma seq (λ t. parse n a_sequence d t) (Reads an_item d s) (Reads a_sequence d s) (λ e t x. last_item x)
+    (λ e t x. held_map (Reads a_sequence d t) (λ f u. Reads a_sequence d s (seq e f) u) (λ f u y. then_sequence x y) (parse n a_sequence d t) (parse_sound n a_sequence d t)))
 parse_sound (suc n) an_item d s =
-    then_held (Both (Reads an-atom d s)) (Both (Reads an_item d s)) (parse n an-atom d s) repeated (parse_sound n an-atom d s) (repeated_sound d s)
-parse_sound (suc n) an-atom d s = atom_sound (λ c t. parse n a-choice c t) (λ c t. parse_sound n a-choice c t) d s
+    then_held (Both (Reads an_atom d s)) (Both (Reads an_item d s)) (parse n an_atom d s) repeated (parse_sound n an_atom d s) (repeated_sound d s)
+parse_sound (suc n) an_atom d s = atom_sound (λ c t. parse n a_choice c t) (λ c t. parse_sound n a_choice c t) d s
 
 -- contents, bodies and rules
 pub content_sound : (s : List Piece) → Held (Both (Says s)) (content s)
 content_sound s = by (begins s)
   where
-    by : (q : Bool) → Held (Both (Says s)) (cond q (parse (4 + 4 * length s) a-choice deepest s) (Some (empty, s)))
-    by true = held_map (Reads a-choice deepest s) (Says s) (λ e t x. choice x) (parse (4 + 4 * length s) a-choice deepest s) (parse_sound (4 + 4 * length s) a-choice deepest s)
+    by : (q : Bool) → Held (Both (Says s)) (cond q (parse (4 + 4 * length s) a_choice deepest s) (Some (empty, s)))
+    by true = held_map (Reads a_choice deepest s) (Says s) (λ e t x. choice x) (parse (4 + 4 * length s) a_choice deepest s) (parse_sound (4 + 4 * length s) a_choice deepest s)
     by false = nothing
 
 pub content_of_sound : (s : List Piece) → Held (λ e. Says s e []) (content_of s)

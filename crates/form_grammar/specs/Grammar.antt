@@ -26,25 +26,25 @@ abbrev pub Written : Type 0
 Written = Content (List ℕ)
 
 pub data Part : Type 0 where
-  a-choice a-sequence an_item an-atom : Part
+  a_choice a_sequence an_item an_atom : Part
 
 -- Reads k d s e t: the pieces s begin with a part of the kind k, in which brackets stand at most d deep; it says e, and t is what follows it
 pub data Reads : Part → ℕ → List Piece → Written → List Piece → Type 0 where
-  last_sequence : {d : ℕ} {s t : List Piece} {e : Written} → Reads a-sequence d s e t → Reads a-choice d s e t
-  or_choice : {d : ℕ} {s t u : List Piece} {e f : Written} → Reads a-sequence d s e (sign bar ∷ t) → Reads a-choice d t f u → Reads a-choice d s (alt e f) u
-  last_item : {d : ℕ} {s t : List Piece} {e : Written} → Reads an_item d s e t → Reads a-sequence d s e t
-  then_sequence : {d : ℕ} {s t u : List Piece} {e f : Written} → Reads an_item d s e (sign comma ∷ t) → Reads a-sequence d t f u → Reads a-sequence d s (seq e f) u
-  plain : {d : ℕ} {s t : List Piece} {e : Written} → Reads an-atom d s e t → Reads an_item d s e t
-  starred : {d : ℕ} {s t : List Piece} {e : Written} → Reads an-atom d s e (sign asterisk ∷ t) → Reads an_item d s (star e) t
-  crossed : {d : ℕ} {s t : List Piece} {e : Written} → Reads an-atom d s e (sign cross ∷ t) → Reads an_item d s (plus e) t
-  asked : {d : ℕ} {s t : List Piece} {e : Written} → Reads an-atom d s e (sign question ∷ t) → Reads an_item d s (opt e) t
-  variable : {d : ℕ} {x : List ℕ} {t : List Piece} → Reads an-atom d (word x ∷ t) (item x) t
-  bracket : {d : ℕ} {s t : List Piece} {e : Written} → Reads a-choice d s e (sign close_round ∷ t) → Reads an-atom (suc d) (sign open_round ∷ s) e t
+  last_sequence : {d : ℕ} {s t : List Piece} {e : Written} → Reads a_sequence d s e t → Reads a_choice d s e t
+  or_choice : {d : ℕ} {s t u : List Piece} {e f : Written} → Reads a_sequence d s e (sign bar ∷ t) → Reads a_choice d t f u → Reads a_choice d s (alt e f) u
+  last_item : {d : ℕ} {s t : List Piece} {e : Written} → Reads an_item d s e t → Reads a_sequence d s e t
+  then_sequence : {d : ℕ} {s t u : List Piece} {e f : Written} → Reads an_item d s e (sign comma ∷ t) → Reads a_sequence d t f u → Reads a_sequence d s (seq e f) u
+  plain : {d : ℕ} {s t : List Piece} {e : Written} → Reads an_atom d s e t → Reads an_item d s e t
+  starred : {d : ℕ} {s t : List Piece} {e : Written} → Reads an_atom d s e (sign asterisk ∷ t) → Reads an_item d s (star e) t
+  crossed : {d : ℕ} {s t : List Piece} {e : Written} → Reads an_atom d s e (sign cross ∷ t) → Reads an_item d s (plus e) t
+  asked : {d : ℕ} {s t : List Piece} {e : Written} → Reads an_atom d s e (sign question ∷ t) → Reads an_item d s (opt e) t
+  variable : {d : ℕ} {x : List ℕ} {t : List Piece} → Reads an_atom d (word x ∷ t) (item x) t
+  bracket : {d : ℕ} {s t : List Piece} {e : Written} → Reads a_choice d s e (sign close_round ∷ t) → Reads an_atom (suc d) (sign open_round ∷ s) e t
 
 -- Says s e t: the pieces s begin with the content e, which t follows
 pub data Says : List Piece → Written → List Piece → Type 0 where
   nothing : {t : List Piece} → Says t empty t
-  choice : {s t : List Piece} {e : Written} → Reads a-choice deepest s e t → Says s e t
+  choice : {s t : List Piece} {e : Written} → Reads a_choice deepest s e t → Says s e t
 
 -- what a rule says of its variable: a node of its name is a branch with such children, or a leaf with a value from the low end to the high end
 pub data Body : Type 0 where

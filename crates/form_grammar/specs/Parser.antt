@@ -2,7 +2,7 @@
 use Rattle.std.specs.Prelude.{ℕ, zero, suc, ◌+◌, ◌*◌, Bool, true, false, cond, List, [], ◌∷◌, length, ℤ, Some, None, Option as Maybe, ◌==◌}
 use Rattle.contents.specs.Contents.{empty, item, seq, alt, star, plus, opt}
 use Rattle.pieces.specs.Pieces.{Piece, word, number, sign, unfit, equals, bar, comma, asterisk, cross, question, open_round, close_round, open_square, close_square}
-use Rattle.form_grammar.specs.Grammar.{deepest, Written, Part, a-choice, a-sequence, an_item, an-atom, Body, branch, leaf, Rule}
+use Rattle.form_grammar.specs.Grammar.{deepest, Written, Part, a_choice, a_sequence, an_item, an_atom, Body, branch, leaf, Rule}
 
 -- f of what is there, and y where nothing is
 abbrev pub when_there : {X Y : Type 0} → Maybe X → (X → Y) → Y → Y
@@ -79,10 +79,10 @@ atom inner d s = when_there (first_word s) (λ (w, t). Some (item w, t)) (past o
 -- the part of the kind k that the pieces s begin with, where brackets may stand d deep, with at most n calls inside one another
 abbrev pub parse : ℕ → Part → ℕ → List Piece → Got
 parse zero k d s = None
-parse (suc n) a-choice d s = parse n a-sequence d s >>= joined bar alt (λ t. parse n a-choice d t)
-parse (suc n) a-sequence d s = parse n an_item d s >>= joined comma seq (λ t. parse n a-sequence d t)
-parse (suc n) an_item d s = parse n an-atom d s >>= repeated
-parse (suc n) an-atom d s = atom (λ c t. parse n a-choice c t) d s
+parse (suc n) a_choice d s = parse n a_sequence d s >>= joined bar alt (λ t. parse n a_choice d t)
+parse (suc n) a_sequence d s = parse n an_item d s >>= joined comma seq (λ t. parse n a_sequence d t)
+parse (suc n) an_item d s = parse n an_atom d s >>= repeated
+parse (suc n) an_atom d s = atom (λ c t. parse n a_choice c t) d s
 
 -- whether the first piece begins an atom, and so a choice
 abbrev pub begins : List Piece → Bool
@@ -94,7 +94,7 @@ begins (unfit ∷ s) = false
 
 -- the content that the pieces begin with: four calls a piece are enough
 abbrev pub content : List Piece → Got
-content s = cond (begins s) (parse (4 + 4 * length s) a-choice deepest s) (Some (empty, s))
+content s = cond (begins s) (parse (4 + 4 * length s) a_choice deepest s) (Some (empty, s))
 
 -- the content that all the pieces are
 abbrev pub content_of : List Piece → Maybe Written

@@ -6,10 +6,10 @@ use Rattle.lexical.specs.Spellings.{spelling}
 use Rattle.contents.specs.declared.expression.Expression.{Expression}
 use Rattle.contents.specs.declared.expression.Expression.TheVariants.{Item}
 use Rattle.contents.specs.Contents.{Content, empty, each, item, seq, alt, star, plus, opt}
-use Rattle.contents.specs.Expressions.{content as content-in}
+use Rattle.contents.specs.Expressions.{content as content_in}
 use Rattle.pieces.specs.declared.token.Token.{Token}
 use Rattle.pieces.specs.Pieces.{Piece, bar, comma, asterisk, cross, question, open_round, close_round}
-use Rattle.form_grammar.specs.Grammar.{deepest, Written, Part, a-choice, a-sequence, an_item, an-atom}
+use Rattle.form_grammar.specs.Grammar.{deepest, Written, Part, a_choice, a_sequence, an_item, an_atom}
 use Rattle.form_grammar.specs.Parser.{Got, parse, begins, content, past, first_word, joined, repeated, closed, bracketed, atom, ◌>>=◌}
 use Rattle.form_text.proofs.Standing.{length_from}
 use Rattle.form_text.specs.Reads.{ReadsContent, Within, written, from, left, word_left, content_left, Onward, Steps, Parses, rank}
@@ -24,7 +24,7 @@ gave {k} {d} {at} {ts} p e = subst (λ x. Parses k d ts at x) e p
 
 -- an expression that says the same as another
 
-pub said : (e : Expression Word) (c : Content Word) → content-in e ≡ c → written e ≡ each spelling c
+pub said : (e : Expression Word) (c : Content Word) → content_in e ≡ c → written e ≡ each spelling c
 said e c h = ap (λ x. each spelling x) h
 
 -- Parts that a sign joins to more of their kind: sequences by a bar to a choice, items by a comma to a sequence.
@@ -81,39 +81,39 @@ module _ (k j : Part) (b : ℕ) (join : Written → Written → Written)
 
 -- items
 
-item_opened : {d at n : ℕ} {ts : List Token} {x : Expression Word} {o : Found} → Parses an-atom d ts at o → ◌≡◌ {A = Found} o (Some (x, n))
+item_opened : {d at n : ℕ} {ts : List Token} {x : Expression Word} {o : Found} → Parses an_atom d ts at o → ◌≡◌ {A = Found} o (Some (x, n))
     → (g : Got) → g ≡ repeated (written x, from ts n) → (n₂ : ℕ) → 4 * (length ts - at) + 2 ≤ n₂ → g ≡ parse n₂ an_item d (from ts at)
 item_opened p e g r zero h = absurd (omega arith)
 item_opened {d} {at} {n} {ts} {x} p e g r (suc m) h = r ∙ ap (λ o. o >>= repeated) ((gave p e).value m (omega arith))
 
-pub item_none : {d at : ℕ} {ts : List Token} {o : Found} → Parses an-atom d ts at o → ◌≡◌ {A = Found} o None → Parses an_item d ts at None
+pub item_none : {d at : ℕ} {ts : List Token} {o : Found} → Parses an_atom d ts at o → ◌≡◌ {A = Found} o None → Parses an_item d ts at None
 item_none {d} {at} {ts} {o} p e = record { value = go; steps = tt }
   where
     go : (n : ℕ) → 4 * (length ts - at) + 2 ≤ n → None ≡ parse n an_item d (from ts at)
     go zero h = absurd (omega arith)
     go (suc m) h = ap (λ o. o >>= repeated) ((gave p e).value m (omega arith))
 
-pub item_plain : {d at n : ℕ} {ts : List Token} {x : Expression Word} {o : Found} → Parses an-atom d ts at o → ◌≡◌ {A = Found} o (Some (x, n))
+pub item_plain : {d at n : ℕ} {ts : List Token} {x : Expression Word} {o : Found} → Parses an_atom d ts at o → ◌≡◌ {A = Found} o (Some (x, n))
     → None ≡ past asterisk (from ts n) → None ≡ past cross (from ts n) → None ≡ past question (from ts n) → Parses an_item d ts at (Some (x, n))
 item_plain {d} {at} {n} {ts} {x} p e f g h =
     let r : Some (written x, from ts n) ≡ repeated (written x, from ts n) = rw (← f) (rw (← g) (rw (← h) refl)) in
     record { value = item_opened p e _ r; steps = (gave p e).steps }
 
-pub item_star : {d at n a : ℕ} {ts : List Token} {x z : Expression Word} {o : Found} → Parses an-atom d ts at o → ◌≡◌ {A = Found} o (Some (x, n))
+pub item_star : {d at n a : ℕ} {ts : List Token} {x z : Expression Word} {o : Found} → Parses an_atom d ts at o → ◌≡◌ {A = Found} o (Some (x, n))
     → Some (from ts a) ≡ past asterisk (from ts n) → Onward ts n a → written z ≡ star (written x) → Parses an_item d ts at (Some (z, a))
 item_star {d} {at} {n} {a} {ts} {x} {z} p e f w g =
     let r : Some (star (written x), from ts a) ≡ repeated (written x, from ts n) = rw (← f) refl in
     let u = (gave p e).steps in
     record { value = item_opened p e _ (ap (λ (c : Written). Some (c, from ts a)) g ∙ r); steps = (omega arith, w.1) }
 
-pub item_plus : {d at n a : ℕ} {ts : List Token} {x z : Expression Word} {o : Found} → Parses an-atom d ts at o → ◌≡◌ {A = Found} o (Some (x, n))
+pub item_plus : {d at n a : ℕ} {ts : List Token} {x z : Expression Word} {o : Found} → Parses an_atom d ts at o → ◌≡◌ {A = Found} o (Some (x, n))
     → None ≡ past asterisk (from ts n) → Some (from ts a) ≡ past cross (from ts n) → Onward ts n a → written z ≡ plus (written x) → Parses an_item d ts at (Some (z, a))
 item_plus {d} {at} {n} {a} {ts} {x} {z} p e f₀ f w g =
     let r : Some (plus (written x), from ts a) ≡ repeated (written x, from ts n) = rw (← f₀) (rw (← f) refl) in
     let u = (gave p e).steps in
     record { value = item_opened p e _ (ap (λ (c : Written). Some (c, from ts a)) g ∙ r); steps = (omega arith, w.1) }
 
-pub item_opt : {d at n a : ℕ} {ts : List Token} {x z : Expression Word} {o : Found} → Parses an-atom d ts at o → ◌≡◌ {A = Found} o (Some (x, n))
+pub item_opt : {d at n a : ℕ} {ts : List Token} {x z : Expression Word} {o : Found} → Parses an_atom d ts at o → ◌≡◌ {A = Found} o (Some (x, n))
     → None ≡ past asterisk (from ts n) → None ≡ past cross (from ts n) → Some (from ts a) ≡ past question (from ts n) → Onward ts n a
     → written z ≡ opt (written x) → Parses an_item d ts at (Some (z, a))
 item_opt {d} {at} {n} {a} {ts} {x} {z} p e f₀ f₁ f w g =
@@ -123,54 +123,54 @@ item_opt {d} {at} {n} {a} {ts} {x} {z} p e f₀ f₁ f w g =
 
 -- atoms
 
-atom_opened : (d at : ℕ) (ts : List Token) (g : Got) → ((m : ℕ) → 4 * (length ts - at) ≤ m → g ≡ atom (λ c t. parse m a-choice c t) d (from ts at))
-    → (n : ℕ) → 4 * (length ts - at) + 1 ≤ n → g ≡ parse n an-atom d (from ts at)
+atom_opened : (d at : ℕ) (ts : List Token) (g : Got) → ((m : ℕ) → 4 * (length ts - at) ≤ m → g ≡ atom (λ c t. parse m a_choice c t) d (from ts at))
+    → (n : ℕ) → 4 * (length ts - at) + 1 ≤ n → g ≡ parse n an_atom d (from ts at)
 atom_opened d at ts g f zero h = absurd (omega arith)
 atom_opened d at ts g f (suc m) h = f m (omega arith)
 
 pub atom_word : {d at n : ℕ} {ts : List Token} {w : Word} {x : Expression Word} → Some (spelling w, from ts n) ≡ first_word (from ts at) → Onward ts at n
-    → x ≡ Item w → Parses an-atom d ts at (Some (x, n))
+    → x ≡ Item w → Parses an_atom d ts at (Some (x, n))
 atom_word {d} {at} {n} {ts} {w} {x} e u i = record {
   value = atom_opened d at ts _ (λ m h. ap (λ (y : Expression Word). Some (written y, from ts n)) i ∙ rw (← e) refl);
   steps = u;
 }
 
-pub atom_none : {d at : ℕ} {ts : List Token} → None ≡ first_word (from ts at) → None ≡ past open_round (from ts at) → Parses an-atom d ts at None
+pub atom_none : {d at : ℕ} {ts : List Token} → None ≡ first_word (from ts at) → None ≡ past open_round (from ts at) → Parses an_atom d ts at None
 atom_none {d} {at} {ts} e f = record { value = atom_opened d at ts None (λ m h. rw (← e) (rw (← f) refl)); steps = tt }
 
-pub atom_deep : {d at : ℕ} {ts : List Token} (a : ℕ) → None ≡ first_word (from ts at) → Some (from ts a) ≡ past open_round (from ts at) → d ≡ 0 → Parses an-atom d ts at None
+pub atom_deep : {d at : ℕ} {ts : List Token} (a : ℕ) → None ≡ first_word (from ts at) → Some (from ts a) ≡ past open_round (from ts at) → d ≡ 0 → Parses an_atom d ts at None
 atom_deep {d} {at} {ts} a e f z =
-    let shut : (m : ℕ) → None ≡ bracketed (λ c t. parse m a-choice c t) d (from ts a) =
-    λ m. ap (λ k. bracketed (λ c t. parse m a-choice c t) k (from ts a)) (sym z) in
+    let shut : (m : ℕ) → None ≡ bracketed (λ c t. parse m a_choice c t) d (from ts a) =
+    λ m. ap (λ k. bracketed (λ c t. parse m a_choice c t) k (from ts a)) (sym z) in
     record { value = atom_opened d at ts None (λ m h. rw (← e) (rw (← f) (shut m))); steps = tt }
 
 -- inside the brackets
 inside : (m d a : ℕ) (ts : List Token) → (d ≡ 0 → ⊥)
-    → bracketed (λ c t. parse m a-choice c t) d (from ts a) ≡ (parse m a-choice (d - 1) (from ts a) >>= closed)
+    → bracketed (λ c t. parse m a_choice c t) d (from ts a) ≡ (parse m a_choice (d - 1) (from ts a) >>= closed)
 inside m d a ts z =
     let deep : d ≡ suc (d - 1) = omega arith in
-    ap (λ k. bracketed (λ c t. parse m a-choice c t) k (from ts a)) deep
+    ap (λ k. bracketed (λ c t. parse m a_choice c t) k (from ts a)) deep
 
 pub atom_lost : {d at a : ℕ} {ts : List Token} {o : Found} → None ≡ first_word (from ts at) → Some (from ts a) ≡ past open_round (from ts at) → Onward ts at a → (d ≡ 0 → ⊥)
-    → Parses a-choice (d - 1) ts a o → ◌≡◌ {A = Found} o None → Parses an-atom d ts at None
+    → Parses a_choice (d - 1) ts a o → ◌≡◌ {A = Found} o None → Parses an_atom d ts at None
 atom_lost {d} {at} {a} {ts} e f u z p q = record {
   value = atom_opened d at ts None (λ m h. rw (← e) (rw (← f) (ap (λ o. o >>= closed) ((gave p q).value m (omega arith)) ∙ sym (inside m d a ts z))));
   steps = tt;
 }
 
 pub atom_unclosed : {d at a n : ℕ} {ts : List Token} {x : Expression Word} {o : Found} → None ≡ first_word (from ts at) → Some (from ts a) ≡ past open_round (from ts at) → Onward ts at a
-    → (d ≡ 0 → ⊥) → Parses a-choice (d - 1) ts a o → ◌≡◌ {A = Found} o (Some (x, n)) → None ≡ past close_round (from ts n) → Parses an-atom d ts at None
+    → (d ≡ 0 → ⊥) → Parses a_choice (d - 1) ts a o → ◌≡◌ {A = Found} o (Some (x, n)) → None ≡ past close_round (from ts n) → Parses an_atom d ts at None
 atom_unclosed {d} {at} {a} {n} {ts} {x} e f u z p q g =
-    let open-end : None ≡ closed (written x, from ts n) = rw (← g) refl in
+    let open_end : None ≡ closed (written x, from ts n) = rw (← g) refl in
     record {
       value = atom_opened d at ts None
-          (λ m h. rw (← e) (rw (← f) (open-end ∙ ap (λ o. o >>= closed) ((gave p q).value m (omega arith)) ∙ sym (inside m d a ts z))));
+          (λ m h. rw (← e) (rw (← f) (open_end ∙ ap (λ o. o >>= closed) ((gave p q).value m (omega arith)) ∙ sym (inside m d a ts z))));
       steps = tt;
     }
 
 pub atom_closed : {d at a n l : ℕ} {ts : List Token} {x : Expression Word} {o : Found} → None ≡ first_word (from ts at) → Some (from ts a) ≡ past open_round (from ts at) → Onward ts at a
-    → (d ≡ 0 → ⊥) → Parses a-choice (d - 1) ts a o → ◌≡◌ {A = Found} o (Some (x, n)) → Some (from ts l) ≡ past close_round (from ts n) → Onward ts n l
-    → Parses an-atom d ts at (Some (x, l))
+    → (d ≡ 0 → ⊥) → Parses a_choice (d - 1) ts a o → ◌≡◌ {A = Found} o (Some (x, n)) → Some (from ts l) ≡ past close_round (from ts n) → Onward ts n l
+    → Parses an_atom d ts at (Some (x, l))
 atom_closed {d} {at} {a} {n} {l} {ts} {x} e f u z p q g w =
     let shut : Some (written x, from ts l) ≡ closed (written x, from ts n) = rw (← g) refl in
     let v = (gave p q).steps in
@@ -182,11 +182,11 @@ atom_closed {d} {at} {a} {n} {l} {ts} {x} e f u z p q g w =
 
 -- contents
 
-pub a_content : {at : ℕ} {ts : List Token} {o : Found} → true ≡ begins (from ts at) → Parses a-choice deepest ts at o → ReadsContent ts at o
+pub a_content : {at : ℕ} {ts : List Token} {o : Found} → true ≡ begins (from ts at) → Parses a_choice deepest ts at o → ReadsContent ts at o
 a_content {at} {ts} {o} e p =
     let enough = length_from ts at in
     record {
-      value = p.value (4 + 4 * length (from ts at)) (omega arith) ∙ ap (λ b. cond b (parse (4 + 4 * length (from ts at)) a-choice deepest (from ts at)) (Some (empty, from ts at))) e;
+      value = p.value (4 + 4 * length (from ts at)) (omega arith) ∙ ap (λ b. cond b (parse (4 + 4 * length (from ts at)) a_choice deepest (from ts at)) (Some (empty, from ts at))) e;
       within = onward o p.steps;
     }
   where
@@ -195,6 +195,6 @@ a_content {at} {ts} {o} e p =
     onward (Some r) s = (omega arith, s.1)
 
 pub a_content_made : (at : ℕ) (ts : List Token) (r : Result Found AllocError) → true ≡ begins (from ts at)
-    → IfOk r (λ o. Parses a-choice deepest ts at o) → IfOk r (λ o. ReadsContent ts at o)
+    → IfOk r (λ o. Parses a_choice deepest ts at o) → IfOk r (λ o. ReadsContent ts at o)
 a_content_made at ts (Ok o) e p = a_content e p
 a_content_made at ts (Err x) e p = tt

@@ -1,2 +1,3 @@
 mod Descent
+mod Finding
 mod Standing

@@ -4,12 +4,12 @@ use Rattle.lexical.specs.declared.spelled.Word.{Word}
 use Rattle.lexical.specs.Spellings.{spelling}
 use Rattle.contents.specs.declared.expression.Expression.{Expression}
 use Rattle.contents.specs.Contents.{each}
-use Rattle.contents.specs.Expressions.{content as content-in}
+use Rattle.contents.specs.Expressions.{content as content_in}
 use Rattle.pieces.specs.declared.token.Token.{Token}
 use Rattle.pieces.specs.Pieces.{Piece}
 use Rattle.pieces.specs.Tokens.{pieces_of}
 use Rattle.pieces.specs.Pieces.{equals}
-use Rattle.form_grammar.specs.Grammar.{Written, Part, a-choice, a-sequence, an_item, an-atom, Body, branch, leaf, Rule}
+use Rattle.form_grammar.specs.Grammar.{Written, Part, a_choice, a_sequence, an_item, an_atom, Body, branch, leaf, Rule}
 use Rattle.form_grammar.specs.Parser.{Got, parse, content, past, first_word, ◌>>=◌}
 use Rattle.form_text.specs.declared.rule.Body.{Body as CodeBody}
 use Rattle.form_text.specs.declared.rule.Body.TheVariants.{Branch, Leaf}
@@ -17,7 +17,7 @@ use Rattle.form_text.specs.declared.rule.Rule.{Rule as CodeRule}
 
 -- the content that an expression says
 abbrev pub written : Expression Word → Written
-written e = each spelling (content-in e)
+written e = each spelling (content_in e)
 
 -- the pieces from a place on
 abbrev pub from : List Token → ℕ → List Piece
@@ -51,10 +51,10 @@ Steps ts at (Some r) = Onward ts at r.1
 
 -- How many calls inside one another a part needs, besides four for each piece.
 abbrev pub rank : Part → ℕ
-rank a-choice = 4
-rank a-sequence = 3
+rank a_choice = 4
+rank a_sequence = 3
 rank an_item = 2
-rank an-atom = 1
+rank an_atom = 1
 
 -- an answer is what the parser gives, however many calls beyond those needed it may make
 pub record Parses (k : Part) (d : ℕ) (ts : List Token) (at : ℕ) (r : Maybe (Expression Word × ℕ)) : Type 0 where

@@ -1,7 +1,7 @@
 // Reads contents by recursive descent. Each function reads one kind of part from a place on, and answers its expression with the place
 // behind it, or nothing where no such part stands.
 ghost use Rattle.std.specs.Prelude.{◌≡◌, ◌≤◌, length, IfOk};
-ghost use Rattle.form_grammar.specs.Grammar.{a-choice, a-sequence, an-atom, an_item};
+ghost use Rattle.form_grammar.specs.Grammar.{a_choice, a_sequence, an_atom, an_item};
 ghost use Rattle.form_grammar.specs.Parser.{begins};
 ghost use Rattle.form_text.specs.Reads.{Parses, ReadsContent, from};
 
@@ -23,7 +23,7 @@ fn choice(
     depth: usize,
 ) -> Result<Option<(Expression<Word>, usize)>, AllocError>
     requires { at ≤ length tokens.now }
-    ensures { IfOk result (λ o. Parses a-choice depth tokens.now at o) }
+    ensures { IfOk result (λ o. Parses a_choice depth tokens.now at o) }
 {
     let Some((first, next)) = sequence(heap, tokens, at, depth)? else {
         return Ok(None);
@@ -46,7 +46,7 @@ fn sequence(
     depth: usize,
 ) -> Result<Option<(Expression<Word>, usize)>, AllocError>
     requires { at ≤ length tokens.now }
-    ensures { IfOk result (λ o. Parses a-sequence depth tokens.now at o) }
+    ensures { IfOk result (λ o. Parses a_sequence depth tokens.now at o) }
 {
     let Some((first, next)) = item(heap, tokens, at, depth)? else {
         return Ok(None);
@@ -95,7 +95,7 @@ fn atom(
     depth: usize,
 ) -> Result<Option<(Expression<Word>, usize)>, AllocError>
     requires { at ≤ length tokens.now }
-    ensures { IfOk result (λ o. Parses an-atom depth tokens.now at o) }
+    ensures { IfOk result (λ o. Parses an_atom depth tokens.now at o) }
 {
     if let Some((variable, next)) = word(tokens, at) {
         return Ok(Some((Expression::Item(variable), next)));

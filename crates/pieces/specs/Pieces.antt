@@ -1,7 +1,7 @@
 -- Form texts are made of pieces: words, numbers and ten signs. What is none of these is a piece that fits nowhere.
 use Rattle.std.specs.Prelude.{ℕ, Bool, cond, ◌||◌, List, ℤ, Some, None, Option as Maybe, ◌==◌}
 use Rattle.lexical.specs.Words.{word as is_IsWord}
-use Rattle.lexical.specs.Numbers.{number as number-value}
+use Rattle.lexical.specs.Numbers.{number as number_value}
 
 pub data Piece : Type 0 where
   -- a word, by its bytes
@@ -62,4 +62,4 @@ valued (Some v) = number v
 
 -- the piece of a run of digits, hyphens and points: a number, if it is of that form
 abbrev pub number_piece : List ℕ → Piece
-number_piece s = valued (number-value s)
+number_piece s = valued (number_value s)

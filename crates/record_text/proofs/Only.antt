@@ -14,7 +14,7 @@ use Rattle.record_text.proofs.Read.{over, decide, at_end, check, start, read, fi
 -- the reader passes what is within the limits
 through : {is : List Item} → Within is → (s : Shape) → runs 0 start is ≡ some s → (rest : List Item) → check 0 start (is ++ rest) ≡ check (size is) s rest
 through nothing s r rest = ap (λ x. check 0 x rest) (some_same start s r)
-through (one_more {is} w i no-over) s' r rest =
+through (one_more {is} w i no_over) s' r rest =
     let h = pop_run is i s' r in
     let m = h.2 in
     ap (check 0 start) (append_assoc is (i ∷ []) rest)
@@ -24,7 +24,7 @@ through (one_more {is} w i no-over) s' r rest =
     ∙ ap (λ n. check n s' rest) (size_push is i))))
   where
     go : (b : Bool) → over (pop_run is i s' r).0 i ≡ b → decide (size is) b (some s') (λ x. check (size is + length (bytes i)) x rest) ≡ check (size is + length (bytes i)) s' rest
-    go true e = let h = pop_run is i s' r in absurd (no-over (is_over is i h.0 s' h.1 h.2 e))
+    go true e = let h = pop_run is i s' r in absurd (no_over (is_over is i h.0 s' h.1 h.2 e))
     go false e = refl
 
 pub items_are : (t : List ℕ) (is : List Item) → ItemsOf t is → items t ≡ is

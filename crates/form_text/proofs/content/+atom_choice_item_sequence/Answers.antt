@@ -1,40 +1,40 @@
 use Rattle.std.proofs.Common.{refl}
 use Rattle.contents.specs.Contents.{seq, alt}
 use Rattle.pieces.specs.Pieces.{bar, comma}
-use Rattle.form_grammar.specs.Grammar.{a-choice, a-sequence, an_item}
+use Rattle.form_grammar.specs.Grammar.{a_choice, a_sequence, an_item}
 use Rattle.form_text.proofs.Descent as descent
 use Rattle.form_text.proofs.content.+atom_choice_item_sequence.Goals as goal
 
 pub choice-returns-in_default : goal.choice-returns-in_default
-choice-returns-in_default t c = descent.none_joined a-choice a-sequence bar alt (λ n d s. refl) refl c.in_ok-first.ensures c.in_default.is
+choice-returns-in_default t c = descent.none_joined a_choice a_sequence bar alt (λ n d s. refl) refl c.in_ok-first.ensures c.in_default.is
 
 pub choice-returns-in_default-past : goal.choice-returns-in_default-past
-choice-returns-in_default-past t c = descent.last_joined a-choice a-sequence bar alt (λ n d s. refl) refl c.in_ok-first.ensures c.in-Some.is c.in_default-past.ensures.value
+choice-returns-in_default-past t c = descent.last_joined a_choice a_sequence bar alt (λ n d s. refl) refl c.in_ok-first.ensures c.in-Some.is c.in_default-past.ensures.value
 
 pub choice-returns-in_default-2 : goal.choice-returns-in_default-2
 choice-returns-in_default-2 t c =
-    descent.lost_joined a-choice a-sequence bar alt (λ n d s. refl) refl c.in_ok-first.ensures c.in-Some.is c.in-Some-past.ensures.value c.in-Some-past.ensures.onward
+    descent.lost_joined a_choice a_sequence bar alt (λ n d s. refl) refl c.in_ok-first.ensures c.in-Some.is c.in-Some-past.ensures.value c.in-Some-past.ensures.onward
     c.in_ok-rest.ensures c.in_default-2.is
 
 pub choice-returns : goal.choice-returns
 choice-returns t c =
-    descent.more_joined a-choice a-sequence bar alt (λ n d s. refl) refl c.in_ok-first.ensures c.in-Some.is c.in-Some-past.ensures.value c.in-Some-past.ensures.onward
+    descent.more_joined a_choice a_sequence bar alt (λ n d s. refl) refl c.in_ok-first.ensures c.in-Some.is c.in-Some-past.ensures.value c.in-Some-past.ensures.onward
     c.in_ok-rest.ensures c.in-Some-2.is (descent.said _ _ c.in_ok-or.ensures)
 
 pub sequence-returns-in_default : goal.sequence-returns-in_default
-sequence-returns-in_default t c = descent.none_joined a-sequence an_item comma seq (λ n d s. refl) refl c.in_ok-first.ensures c.in_default.is
+sequence-returns-in_default t c = descent.none_joined a_sequence an_item comma seq (λ n d s. refl) refl c.in_ok-first.ensures c.in_default.is
 
 pub sequence-returns-in_default-past : goal.sequence-returns-in_default-past
-sequence-returns-in_default-past t c = descent.last_joined a-sequence an_item comma seq (λ n d s. refl) refl c.in_ok-first.ensures c.in-Some.is c.in_default-past.ensures.value
+sequence-returns-in_default-past t c = descent.last_joined a_sequence an_item comma seq (λ n d s. refl) refl c.in_ok-first.ensures c.in-Some.is c.in_default-past.ensures.value
 
 pub sequence-returns-in_default-2 : goal.sequence-returns-in_default-2
 sequence-returns-in_default-2 t c =
-    descent.lost_joined a-sequence an_item comma seq (λ n d s. refl) refl c.in_ok-first.ensures c.in-Some.is c.in-Some-past.ensures.value c.in-Some-past.ensures.onward
+    descent.lost_joined a_sequence an_item comma seq (λ n d s. refl) refl c.in_ok-first.ensures c.in-Some.is c.in-Some-past.ensures.value c.in-Some-past.ensures.onward
     c.in_ok-rest.ensures c.in_default-2.is
 
 pub sequence-returns : goal.sequence-returns
 sequence-returns t c =
-    descent.more_joined a-sequence an_item comma seq (λ n d s. refl) refl c.in_ok-first.ensures c.in-Some.is c.in-Some-past.ensures.value c.in-Some-past.ensures.onward
+    descent.more_joined a_sequence an_item comma seq (λ n d s. refl) refl c.in_ok-first.ensures c.in-Some.is c.in-Some-past.ensures.value c.in-Some-past.ensures.onward
     c.in_ok-rest.ensures c.in-Some-2.is (descent.said _ _ c.in_ok-then.ensures)
 
 pub item-returns-in_default : goal.item-returns-in_default
