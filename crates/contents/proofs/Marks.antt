@@ -1,5 +1,5 @@
 -- Marking numbers the places from left to right. Assumes nothing.
-use Rattle.std.proofs.Common.{◌≡◌, ℕ, zero, suc, ◌+◌, ◌≤◌, ◌⊎◌, List, [], ◌∷◌, ◌++◌, sym, refl, ap, ◌∙◌, subst, ap₂, inl, inr, add-zero, add-suc, suc-add, zero-add, arith}
+use Rattle.std.proofs.Common.{◌≡◌, ℕ, zero, suc, ◌+◌, ◌≤◌, List, ◌∷◌, ◌++◌, sym, refl, ap, ◌∙◌, subst, ap₂, inl, inr, add-zero, add-suc, suc-add, zero-add, arith}
 use Rattle.contents.specs.Contents.{Content, empty, item, seq, alt, star, plus, opt, items}
 use Rattle.contents.specs.Marking.{mark, places, range, Among, Once, Linear}
 use Rattle.contents.specs.Laws.{MarkingRule}

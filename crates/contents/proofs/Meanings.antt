@@ -1,5 +1,5 @@
 -- The computed sets mean what they are to mean. Assumes nothing.
-use Rattle.std.proofs.Common.{◌≡◌, ℕ, Bool, true, false, ◌&&◌, ◌||◌, ◌⊎◌, List, [], ◌∷◌, ◌++◌, sym, refl, ap, subst, inl, inr, append_assoc, eqb-true}
+use Rattle.std.proofs.Common.{◌≡◌, ℕ, true, ◌&&◌, ◌||◌, List, [], ◌∷◌, ◌++◌, sym, refl, ap, subst, inl, inr, append_assoc, eqb-true}
 use mathlib.Core.Bool.{false≢true}
 use Rattle.contents.specs.Contents.{Content, empty, item, seq, alt, star, plus, opt, Word, w_empty, w_item, w_seq, w_left, w_right, w_none, w_more, w_plus, w_skip, w_some}
 use Rattle.contents.specs.Sets.{Nullable, Opens, Closes, Follows, nullable, opens, closes, follows, Run, Local}

@@ -1,7 +1,6 @@
 -- Each word of a content walks through its sets. Assumes nothing.
-use Rattle.std.proofs.Common.{◌≡◌, ℕ, Bool, true, false, ◌&&◌, ◌||◌, List, [], ◌∷◌, ◌++◌, sym, refl, subst, append-nil, eq-eqb}
-use mathlib.Core.Bool.{false≢true}
-use Rattle.contents.specs.Contents.{Content, empty, item, seq, alt, star, plus, opt, Word, w_empty, w_item, w_seq, w_left, w_right, w_none, w_more, w_plus, w_skip, w_some}
+use Rattle.std.proofs.Common.{◌≡◌, ℕ, true, List, [], ◌∷◌, ◌++◌, refl, eq-eqb}
+use Rattle.contents.specs.Contents.{Content, seq, alt, star, plus, opt, Word, w_empty, w_item, w_seq, w_left, w_right, w_none, w_more, w_plus, w_skip, w_some}
 use Rattle.contents.specs.Sets.{nullable, opens, closes, follows, Run, Local}
 use Rattle.contents.proofs.Bools.{or_left, or_right, and_both}
 

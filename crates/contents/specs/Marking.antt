@@ -1,5 +1,5 @@
 -- Marking: each place of a variable gets a number of its own, from left to right. Assumes nothing.
-use Rattle.std.specs.Prelude.{◌≡◌, ℕ, zero, suc, ◌+◌, ◌⊎◌, List, [], ◌∷◌, ◌++◌}
+use Rattle.std.specs.Prelude.{◌≡◌, ℕ, zero, suc, ◌+◌, ◌⊎◌, List, [], ◌∷◌}
 use Rattle.contents.specs.Contents.{Content, empty, item, seq, alt, star, plus, opt, items}
 
 -- the most occurrences that a form has; their numbers lie below it

@@ -9,7 +9,7 @@
 --     atom     = variable | "(", choice, ")"
 --
 -- Variables and names are words. Brackets of atoms stand inside one another at most 16 deep.
-use Rattle.std.specs.Prelude.{◌≡◌, ℕ, suc, ◌≤◌, List, [], ◌∷◌, length, ℤ}
+use Rattle.std.specs.Prelude.{ℕ, suc, ◌≤◌, List, [], ◌∷◌, length, ℤ}
 use Rattle.contents.specs.Contents.{Content, empty, item, seq, alt, star, plus, opt}
 use Rattle.pieces.specs.Pieces.{Piece, word, number, sign, equals, bar, comma, asterisk, cross, question, open_round, close_round, open_square, close_square}
 use Rattle.pieces.specs.Spelling.{Spelled}

@@ -1,18 +1,18 @@
 -- Each way through the reader of contents answers what the parser gives.
-use Rattle.std.proofs.Common.{◌≡◌, ℕ, zero, suc, ◌+◌, ◌-◌, ◌*◌, ◌<◌, ◌≤◌, Bool, true, false, cond, List, [], ◌∷◌, length, IfOk, Some, None, Ok, Err, Option as Maybe, Result, sym, refl, ap, ◌∙◌, subst, arith}
+use Rattle.std.proofs.Common.{◌≡◌, ℕ, zero, suc, ◌+◌, ◌-◌, ◌*◌, ◌≤◌, true, cond, List, length, IfOk, Some, None, Ok, Err, Option as Maybe, Result, sym, refl, ap, ◌∙◌, subst, arith}
 use Rattle.std.specs.declared.alloc.AllocError.{AllocError}
 use Rattle.lexical.specs.declared.spelled.Word.{Word}
 use Rattle.lexical.specs.Spellings.{spelling}
 use Rattle.contents.specs.declared.expression.Expression.{Expression}
 use Rattle.contents.specs.declared.expression.Expression.TheVariants.{Item}
-use Rattle.contents.specs.Contents.{Content, empty, each, item, seq, alt, star, plus, opt}
+use Rattle.contents.specs.Contents.{Content, empty, each, star, plus, opt}
 use Rattle.contents.specs.Expressions.{content as content_in}
 use Rattle.pieces.specs.declared.token.Token.{Token}
-use Rattle.pieces.specs.Pieces.{Piece, bar, comma, asterisk, cross, question, open_round, close_round}
-use Rattle.form_grammar.specs.Grammar.{deepest, Written, Part, a_choice, a_sequence, an_item, an_atom}
-use Rattle.form_grammar.specs.Parser.{Got, parse, begins, content, past, first_word, joined, repeated, closed, bracketed, atom, ◌>>=◌}
+use Rattle.pieces.specs.Pieces.{Piece, asterisk, cross, question, open_round, close_round}
+use Rattle.form_grammar.specs.Grammar.{deepest, Written, Part, a_choice, an_item, an_atom}
+use Rattle.form_grammar.specs.Parser.{Got, parse, begins, past, first_word, joined, repeated, closed, bracketed, atom, ◌>>=◌}
 use Rattle.form_text.proofs.Standing.{length_from}
-use Rattle.form_text.specs.Reads.{ReadsContent, Within, written, from, left, word_left, content_left, Onward, Steps, Parses, rank}
+use Rattle.form_text.specs.Reads.{ReadsContent, Within, written, from, Onward, Steps, Parses, rank}
 
 abbrev Found : Type 0
 Found = Maybe (Expression Word × ℕ)

@@ -1,5 +1,5 @@
 -- What the functions of texts give is what the texts say.
-use Rattle.std.proofs.Common.{◌≡◌, ℕ, ◌≤◌, Bool, true, cond, leb, List, length, Some, None, Option as Maybe, sym, ap, ◌∙◌, le-leb}
+use Rattle.std.proofs.Common.{◌≡◌, ℕ, ◌≤◌, cond, leb, List, length, Some, None, Option as Maybe, sym, ap, ◌∙◌, le-leb}
 use Rattle.lexical.specs.declared.spelled.Word.{Word}
 use Rattle.contents.specs.declared.expression.Expression.{Expression}
 use Rattle.pieces.specs.Pieces.{Piece}

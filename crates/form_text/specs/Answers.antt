@@ -1,5 +1,5 @@
 -- What reading a text answers.
-use Rattle.std.specs.Prelude.{◌≡◌, ℕ, Bool, true, false, List, ◌≤ℤ◌, ◌<ℤ◌, Some, None, Ok, Err, Option as Maybe, Result}
+use Rattle.std.specs.Prelude.{ℕ, Bool, true, false, List, ◌≤ℤ◌, ◌<ℤ◌, Some, None, Ok, Err, Option as Maybe, Result}
 use Rattle.lexical.specs.declared.spelled.Word.{Word}
 use Rattle.contents.specs.declared.expression.Expression.{Expression}
 use Rattle.form_grammar.specs.Grammar.{Written, Body, branch, leaf, Rule, RuleText, StartText}

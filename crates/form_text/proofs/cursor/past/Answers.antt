@@ -1,4 +1,4 @@
-use Rattle.std.proofs.Common.{◌≡◌, sym, ◌∙◌, rules}
+use Rattle.std.proofs.Common.{sym, ◌∙◌, rules}
 use Rattle.pieces.specs.Tokens.{byte}
 use Rattle.form_text.proofs.Standing.{past_end, past_none, past_sign, past_other}
 use Rattle.form_text.proofs.cursor.past.Goals as goal

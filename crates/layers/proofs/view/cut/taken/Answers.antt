@@ -3,7 +3,6 @@ use Rattle.records.specs.Nodes.{no_node, depth_at}
 use Rattle.layers.specs.Views.{entry_of, raised}
 use Rattle.layers.specs.declared.view.Shown.{Shown}
 use Rattle.layers.proofs.Cutting.{to_cut, cut_first, cut_none, cut_more, cut_stop, cut_end, cut_push, cut_done}
-use Rattle.layers.proofs.view.cut.taken.Given as given
 use Rattle.layers.proofs.view.cut.taken.Goals as goal
 use Rattle.layers.proofs.view.cut.taken.Goals.{then-n-count+in_ok-push+else-loop-i-test, then-n-count+in_ok-push+then-loop-i-test+then-not-is_deeper, else-n-count}
 

@@ -1,4 +1,4 @@
-use Rattle.std.proofs.Common.{◌≡◌, ◌-◌, ◌<◌, ◌≤◌, min, length, take, sym, ap, ◌∙◌, arith, take_all, rules}
+use Rattle.std.proofs.Common.{◌≡◌, ◌-◌, min, length, take, sym, ap, ◌∙◌, arith, take_all, rules}
 use native.Mathlib.Decide.{dec_lt}
 use Rattle.lexical.proofs.spelled.Word.as_bytes.Goals as goal
 
