@@ -9,7 +9,7 @@ pub fn parser_rule() -> u8
     0
 }
 
-// `rule-of` and `start_of_lem` give what texts say.
+// `rule_of` and `start_of` give what texts say.
 pub fn texts_rule() -> u8
     ensures { TextsRule }
 {

@@ -26,7 +26,7 @@ pub data Selected {X : Type 0} (P : ℕ → Type 0) : ℕ → List X → List X 
 
 -- The same as functions of the nodes below, and of any list xs that lies beside them (the nodes themselves, or their places).
 
--- Hiding, from left to right: `limit` is the depth of the node that is being left out, or `most-levels` where none is. Whatever is
+-- Hiding, from left to right: `limit` is the depth of the node that is being left out, or `most_levels` where none is. Whatever is
 -- deeper than it lies beneath that node.
 abbrev pub passes : List ℕ → ℕ → Node → Bool
 passes w limit n = cond (nat_lt limit n.depth) false (cond (bytes_eq n.name w) false true)
