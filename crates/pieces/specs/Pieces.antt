@@ -12,7 +12,7 @@ pub data Piece : Type 0 where
   sign : ℕ → Piece
   unfit : Piece
 
--- the ten signs, by their bytes: = | , * + ? ( ) [ ]
+-- the ten signs, by their bytes: `=`, `|`, `,`, `*`, `+`, `?`, and the brackets `(`, `)`, `[`, `]`
 abbrev pub equals : ℕ
 equals = 61
 
