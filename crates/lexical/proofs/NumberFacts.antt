@@ -1,9 +1,13 @@
 -- Numbers: the decision and the grammar agree; the bytes of a number, and its bounds.
-use Rattle.std.proofs.Common.{◌≡◌, ℕ, zero, suc, ◌+◌, ◌-◌, ◌*◌, ◌^◌, ◌<◌, ◌≤◌, Bool, true, false, cond, ◌&&◌, eqb, leb, ◌⊎◌, List, [], ◌∷◌, ◌++◌, length, get_or, take, drop, ℤ, pos, negsuc, neg_ℤ, ◌≤ℤ◌, Some, None, Option as Maybe, sym, refl, ap, ◌∙◌, subst, inl, inr, pow-suc, add-one, arith}
+use Rattle.std.proofs.Common.{◌≡◌, ℕ, zero, suc, ◌+◌, ◌-◌, ◌*◌, ◌^◌, ◌<◌, ◌≤◌, Bool, true, false, cond, ◌&&◌, eqb, leb, ltb, ◌⊎◌, List, [], ◌∷◌, ◌++◌, length, get_or, take, drop, ℤ, pos, negsuc, neg_ℤ, ◌≤ℤ◌, Some, None, Option as Maybe, sym, refl, ap, ◌∙◌, subst, inl, inr, pow-suc, add-one, arith}
 use native.Mathlib.Nat.{pow-le-pow_right}
 use Rattle.std.proofs.lemmas.List.{append-nil, take-append-drop, take_at, drop_at}
+use Rattle.std.specs.List.{position, position_or_len}
+use Rattle.std.specs.Option.{unwrap_or}
+use Rattle.std.proofs.lemmas.List.Sums.{prefix_len-le-length}
+use Rattle.std.proofs.lemmas.List.Recursion.{is_position_or_len}
 use Rattle.std.proofs.lemmas.Int.{ints}
-use Rattle.std.proofs.lemmas.Bool.{leb-true, le-leb, lt-leb, eqb-true, ne_eqb, and_parts, and_from, and_left, and_right, cases_Bool}
+use Rattle.std.proofs.lemmas.Bool.{leb-true, ltb-false, le-leb, lt-leb, eqb-true, ne_eqb, and_parts, and_from, and_left, and_right, cases_Bool}
 use Rattle.lexical.specs.Kinds.{digit, kind}
 use Rattle.lexical.specs.Words.{all}
 use Rattle.lexical.specs.Rounding.{nearest, hundredths}
@@ -61,6 +65,29 @@ point_here b bs e = ap (λ x. cond x 0 (suc (first_point bs))) e
 pub point_nil : first_point [] ≡ 0
 unfolding first_point
 point_nil = refl
+
+point_position : (s : List ℕ) → first_point s ≡ position_or_len (λ b. eqb b 46) s
+unfolding first_point
+point_position s = is_position_or_len first_point (λ b. eqb b 46) refl (λ b bs. ap (λ n. cond (eqb b 46) 0 n) (omega arith)) s
+
+pub point_within : (s : List ℕ) → first_point s ≤ length s
+point_within s =
+    let w : position_or_len (λ b. eqb b 46) s ≤ length s = prefix_len-le-length _ s in
+    let e = point_position s in
+    omega arith
+
+-- the place that a search finds, or else the length
+pub point_found : (s : List ℕ) → unwrap_or (position (λ b. eqb b 46) s) (length s) ≡ first_point s
+point_found s =
+    let n : ℕ = position_or_len (λ b. eqb b 46) s in
+    let e : first_point s ≡ n = point_position s in
+    let w : n ≤ length s = prefix_len-le-length _ s in
+    elim (cases_Bool (ltb n (length s))) [
+      | inl t ↦ ap (λ b. unwrap_or (cond b (Some n) None) (length s)) t ∙ sym e
+      | inr f ↦
+          let l : length s ≤ n = ltb-false n (length s) f in
+          ap (λ b. unwrap_or (cond b (Some n) None) (length s)) f ∙ omega (arith, e)
+    ]
 
 no_point_digit : (b : ℕ) → digit b ≡ true → eqb b 46 ≡ false
 no_point_digit b e = let r = digit_range b e in ne_eqb b 46 (λ z. omega (arith, r.0))

@@ -1,5 +1,6 @@
 -- A word is a letter followed by letters, digits or hyphens, 1 to 16 bytes in all. The names of nodes are words.
 use Rattle.std.specs.Prelude.{ℕ, Bool, true, false, ◌&&◌, List, [], ◌∷◌, length, nat_le}
+use Rattle.std.specs.List.{list_all}
 use Rattle.lexical.specs.declared.kinds.Kind.{Kind}
 use Rattle.lexical.specs.declared.kinds.Kind.TheVariants.{Letter, Digit, Hyphen, Point, Less, Greater, Slash, Blank, Other}
 use Rattle.lexical.specs.Kinds.{kind}
@@ -32,8 +33,7 @@ continues_word Other = false
 
 -- a test that all bytes pass
 abbrev pub all : (ℕ → Bool) → List ℕ → Bool
-all P [] = true
-all P (b ∷ bs) = P b && all P bs
+all = list_all
 
 -- a letter, and then letters, digits and hyphens
 unfoldable pub spelled : List ℕ → Bool

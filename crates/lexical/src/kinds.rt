@@ -2,9 +2,11 @@
 ghost use Rattle.std.specs.Prelude.{◌≡◌, map};
 ghost use Rattle.std.specs.List.{range_with_len};
 ghost use Rattle.lexical.specs.Kinds.{kind, kind_rule};
+ghost use Rattle.lexical.specs.Numbers.{figure_kind};
+ghost use Rattle.lexical.specs.Words.{begins_word, continues_word};
 
 // What a byte is to the readers of text.
-#[derive(Clone, Copy)]
+#[derive(Clone, Copy, PartialEq, Eq)]
 pub enum Kind {
     Letter,
     Digit,
@@ -17,7 +19,31 @@ pub enum Kind {
     Other,
 }
 
-// The kinds of the 256 bytes. A `static` is read in place; a `const` would be built anew in each function that names it.
+impl Kind {
+    // Whether a word may begin with it.
+    pub fn begins_word(self) -> bool
+        ensures { result ≡ begins_word self }
+    {
+        matches!(self, Kind::Letter)
+    }
+
+    // Whether a word may go on with it.
+    pub fn continues_word(self) -> bool
+        ensures { result ≡ continues_word self }
+    {
+        matches!(self, Kind::Letter | Kind::Digit | Kind::Hyphen)
+    }
+
+    // Whether numbers are written with it.
+    pub fn in_number(self) -> bool
+        ensures { result ≡ figure_kind self }
+    {
+        matches!(self, Kind::Digit | Kind::Hyphen | Kind::Point)
+    }
+}
+
+// The kinds of the 256 bytes. A `match` on ranges of bytes says the same in ten lines, but with it `open` takes half as long again
+// (docs/TIMES.md). A `static` is read in place; a `const` would be built anew in each function that names it.
 static KINDS: [Kind; 256] = [
     Kind::Other,
     Kind::Other,

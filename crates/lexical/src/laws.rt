@@ -3,22 +3,16 @@ ghost use Rattle.lexical.specs.Numbers.{NumberRule, WorkedNumbers};
 ghost use Rattle.lexical.specs.Rounding.{RoundingRule};
 
 // What `hundredths` is.
-pub fn rounding_rule() -> u8
+pub fn rounding_rule()
     ensures { RoundingRule }
-{
-    0
-}
+{}
 
 // `number` reads the numbers of the grammar, and nothing else.
-pub fn number_rule() -> u8
+pub fn number_rule()
     ensures { NumberRule }
-{
-    0
-}
+{}
 
 // Four numbers with their values.
-pub fn worked_numbers() -> u8
+pub fn worked_numbers()
     ensures { WorkedNumbers }
-{
-    0
-}
+{}

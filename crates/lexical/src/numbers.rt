@@ -1,5 +1,6 @@
 // Numbers as text: an optional minus, one to five digits, and optionally a point with one to three digits.
-ghost use Rattle.std.specs.Prelude.{◌≡◌, ◌^◌, ◌<◌, ◌≤◌, true, length, MatchOption};
+ghost use Rattle.std.specs.Prelude.{◌≡◌, ◌==◌, ◌^◌, ◌<◌, ◌≤◌, true, length, MatchOption};
+ghost use Rattle.std.specs.List.{position};
 ghost use Rattle.lexical.specs.Numbers.{Means, most_fraction, valued, scaled, first_point, fraction, thousandths, has_minus, signed, exact, number};
 
 use crate::kinds::{Kind, kind_of};
@@ -29,17 +30,11 @@ fn figures(digits: &[u8], most: usize) -> Option<u32>
     Some(n)
 }
 
-// The place of the first point, or the length where there is none.
-fn first_point(bytes: &[u8]) -> usize
-    ensures place { result ≡ first_point bytes.now }
-    ensures within { result ≤ length bytes.now }
+// The place of the first point.
+fn first_point(bytes: &[u8]) -> Option<usize>
+    ensures { result ≡ position (λ b. b == 46) bytes.now }
 {
-    for i in 0..bytes.len() {
-        if let Kind::Point = kind_of(bytes[i]) {
-            return i;
-        }
-    }
-    bytes.len()
+    bytes.iter().position(|b| *b == b'.')
 }
 
 // Digits after the point with the value n, in thousandths.
@@ -55,10 +50,9 @@ fn fraction(part: &[u8]) -> Option<u32>
     ensures value { result ≡ fraction part.now }
     ensures small { MatchOption result Unit (λ n. n < 1000) }
 {
-    if part.is_empty() {
+    let [_, digits @ ..] = part else {
         return Some(0);
-    }
-    let digits = &part[1..];
+    };
     let n = figures(digits, MOST_FRACTION)?;
     Some(scale(n, digits.len()))
 }
@@ -68,43 +62,20 @@ fn thousandths(bytes: &[u8]) -> Option<u32>
     ensures value { result ≡ thousandths bytes.now }
     ensures small { MatchOption result Unit (λ n. n < 10 ^ 8) }
 {
-    let point = first_point(bytes);
-    let whole = figures(&bytes[..point], MOST_WHOLE)?;
-    let part = fraction(&bytes[point..])?;
+    let (whole, part) = bytes.split_at(first_point(bytes).unwrap_or(bytes.len()));
+    let whole = figures(whole, MOST_WHOLE)?;
+    let part = fraction(part)?;
     Some(whole * 1000 + part)
-}
-
-// Whether a minus stands first.
-fn has_minus(bytes: &[u8]) -> bool
-    ensures value { result ≡ has_minus bytes.now }
-    ensures within { result ≡ true → 1 ≤ length bytes.now }
-{
-    !bytes.is_empty() && matches!(kind_of(bytes[0]), Kind::Hyphen)
-}
-
-// A magnitude with its sign.
-fn signed(size: u32, minus: bool) -> i32
-    requires { size < 10 ^ 8 }
-    ensures { result ≡ signed minus size }
-{
-    if minus { -(size as i32) } else { size as i32 }
 }
 
 // A number in thousandths.
 fn exact(bytes: &[u8]) -> Option<i32>
     ensures { result ≡ exact bytes.now }
 {
-    let minus = has_minus(bytes);
-    let size = thousandths(&bytes[usize::from(minus)..])?;
-    Some(signed(size, minus))
-}
-
-// The same by the function that computes it.
-fn rounded(bytes: &[u8]) -> Option<i32>
-    ensures { result ≡ number bytes.now }
-{
-    let thousandths = exact(bytes)?;
-    Some(hundredths(thousandths))
+    match bytes.strip_prefix(b"-") {
+        Some(size) => Some(-(thousandths(size)? as i32)),
+        None => Some(thousandths(bytes)? as i32),
+    }
 }
 
 // A number in hundredths, rounded to the nearest, a half away from zero; none where the bytes are no number.
@@ -112,5 +83,5 @@ pub fn number(bytes: &[u8]) -> Option<i32>
     ensures means { Means bytes.now result }
     ensures value { result ≡ number bytes.now }
 {
-    rounded(bytes)
+    exact(bytes).map(hundredths)
 }

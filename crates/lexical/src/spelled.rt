@@ -18,9 +18,7 @@ fn padded(bytes: &[u8]) -> [u8; LONGEST_WORD]
     ensures { take (length bytes.now) result ≡ bytes.now }
 {
     let mut padded = [0; LONGEST_WORD];
-    for i in 0..bytes.len() {
-        padded[i] = bytes[i];
-    }
+    padded[..bytes.len()].copy_from_slice(bytes);
     padded
 }
 

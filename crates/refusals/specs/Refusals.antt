@@ -1,5 +1,5 @@
 -- Every refusal has a number, and names the places that stand behind it. Contracts speak of refusals by these alone.
-use Rattle.std.specs.Prelude.{ℕ, List, [], ◌∷◌}
+use Rattle.std.specs.Prelude.{ℕ, List, [], ◌∷◌, ◌++◌, codes, decimal}
 use Rattle.refusals.specs.declared.Refusal.{Refusal}
 use Rattle.refusals.specs.declared.Refusal.TheVariants.{Misfit, Limit, Block, Short, List as OtherList, Input}
 
@@ -22,3 +22,12 @@ number e = (told e).0
 
 abbrev pub places : Refusal → List ℕ
 places e = (told e).1
+
+-- A refusal as text: the word `refused`, its number, and any places that it names, each after a single space. `decimal n` is the
+-- digits of n, with no zero before the first but in 0 itself.
+abbrev pub spaced : List ℕ → List ℕ
+spaced [] = []
+spaced (n ∷ ns) = codes " " ++ (decimal n ++ spaced ns)
+
+abbrev pub text : Refusal → List ℕ
+text e = codes "refused" ++ spaced (number e ∷ places e)

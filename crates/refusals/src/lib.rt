@@ -1,11 +1,13 @@
 // The refusals of the checker, each with its number and the place that it names.
 #![tactic(auto)]
 
-ghost use Rattle.std.specs.Prelude.{◌≡◌};
-ghost use Rattle.refusals.specs.Refusals.{number, places};
+ghost use Rattle.std.specs.Prelude.{◌≡◌, Some};
+ghost use Rattle.refusals.specs.Refusals.{number, places, text};
 ghost use Rattle.std.specs.Option.{option_to_list};
 
-#[derive(Clone, Copy)]
+use std::fmt;
+
+#[derive(Clone, Copy, Debug, PartialEq, Eq)]
 pub enum Refusal {
     // a record text whose first item at fault, at this place, does not fit, or that ends at this place with an element open
     Misfit(usize),
@@ -41,6 +43,19 @@ impl Refusal {
         match self {
             Refusal::Misfit(place) | Refusal::Limit(place) => Some(*place),
             Refusal::Block | Refusal::Short | Refusal::List | Refusal::Input => None,
+        }
+    }
+}
+
+// What programs print of a refusal.
+impl fmt::Display for Refusal {
+    ghost output = { λ e. Some (text e) };
+
+    fn fmt<W: fmt::Write>(&self, f: &mut fmt::Formatter<W>) -> fmt::Result {
+        let number = self.number();
+        match self.place() {
+            Some(place) => write!(f, "refused {number} {place}"),
+            None => write!(f, "refused {number}"),
         }
     }
 }

@@ -4,39 +4,6 @@ ghost use Rattle.std.specs.Option.{option_to_list};
 
 use super::Stack;
 
-// How many of `count` entries lie in the slots.
-fn front_len<T: Copy>(slots: &[T], count: usize) -> usize
-    ensures len { result ≡ length (take count slots.now) }
-    ensures within { result ≤ length slots.now }
-{
-    count.min(slots.len())
-}
-
-// The last of `count` entries at the front of the slots.
-fn last_of<T: Copy>(slots: &[T], count: usize) -> Option<T>
-    ensures test { is_some result ≡ nat_lt 0 (length (take count slots.now)) }
-    ensures last { take count slots.now ≡ take (length (take count slots.now) - 1) slots.now ++ option_to_list result }
-{
-    let n = front_len(slots, count);
-    if n == 0 {
-        return None;
-    }
-    Some(slots[n - 1])
-}
-
-// Writes one entry more behind `count` entries at the front of the slots, and answers how many lie there now; none where there is no
-// room.
-fn put_behind<T: Copy>(slots: &mut [T], count: usize, x: T) -> Option<usize>
-    ensures { MatchOption result ((length slots.old ≤ length (take count slots.old)) × (slots.new ≡ slots.old)) (λ n. (n ≡ length (take count slots.old) + 1) × (n ≤ length slots.old) × (slots.new ≡ slice_set slots.old (length (take count slots.old)) x) × (take n slots.new ≡ take count slots.old ++ x ∷ [])) }
-{
-    let at = front_len(slots, count);
-    if at >= slots.len() {
-        return None;
-    }
-    slots[at] = x;
-    Some(at + 1)
-}
-
 impl<'a, T: Copy> Stack<'a, T> {
     // An empty stack over the slots. (`same`, here and below: it is the same loan, so the caller finds in its slice what the stack
     // leaves there.)
@@ -48,11 +15,18 @@ impl<'a, T: Copy> Stack<'a, T> {
         Stack { slots, count: 0 }
     }
 
+    // The entries that it holds, the oldest first.
+    fn held(&self) -> &[T]
+        ensures { result.now ≡ held self.now }
+    {
+        &self.slots[..self.count]
+    }
+
     // How many entries it holds.
     pub fn len(&self) -> usize
         ensures { result ≡ length (held self.now) }
     {
-        front_len(self.slots, self.count)
+        self.held().len()
     }
 
     // Whether there is room for no further entry.
@@ -70,11 +44,11 @@ impl<'a, T: Copy> Stack<'a, T> {
         ensures room { room self.new ≡ room self.old }
         ensures same { self.new.slots.ghost_name ≡ self.old.slots.ghost_name }
     {
-        let count = self.count;
-        let Some(more) = put_behind(self.slots, count, x) else {
+        if self.is_full() {
             return false;
-        };
-        self.count = more;
+        }
+        self.slots[self.count] = x;
+        self.count += 1;
         true
     }
 
@@ -83,7 +57,7 @@ impl<'a, T: Copy> Stack<'a, T> {
         ensures test { is_some result ≡ nat_lt 0 (length (held self.now)) }
         ensures held { held self.now ≡ older self.now ++ option_to_list result }
     {
-        last_of(self.slots, self.count)
+        self.held().last().copied()
     }
 
     // Takes the newest entry off.
@@ -93,8 +67,8 @@ impl<'a, T: Copy> Stack<'a, T> {
         ensures lent { lent self.new ≡ lent self.old }
         ensures same { self.new.slots.ghost_name ≡ self.old.slots.ghost_name }
     {
-        let newest = self.top();
-        self.count = self.len().saturating_sub(1);
-        newest
+        let newest = self.top()?;
+        self.count -= 1;
+        Some(newest)
     }
 }

@@ -1,31 +1,46 @@
-use Rattle.std.proofs.Common.{◌≡◌, ℕ, ◌-◌, Bool, true, false, cond, List, length, take, drop, ℤ, Some, None, Option as Maybe, sym, refl, ap, ◌∙◌, w32, SFits, rules}
-use mir.Val.{bool_byte}
-use Rattle.std.proofs.lemmas.List.{take_rest}
-use Rattle.std.proofs.lemmas.Int.{to_z-of_z}
+use Rattle.std.proofs.Common.{◌≡◌, ℕ, ◌<◌, ◌^◌, Bool, true, false, cond, ◌&&◌, List, [], ◌∷◌, take, drop, ℤ, pos, neg_ℤ, ◌-ℤ◌, Some, None, Option as Maybe, nat_eq, sym, refl, ap, ◌∙◌, w32, to_z, of_z, rules}
+use Rattle.std.specs.Cmp.Lexicographic.{pointwise}
 use Rattle.lexical.specs.Numbers.{thousandths, has_minus, with_sign, exact}
 use Rattle.lexical.proofs.NumberFacts.{exact_with}
 use Rattle.lexical.proofs.numbers.exact.Goals as goal
 
-one_or_none : (b : Bool) → bool_byte b ≡ cond b 1 0
-one_or_none true = refl
-one_or_none false = refl
+-- whether a minus stands first, as the code tests it
+minus_prefix : (s : List ℕ) (b : Bool) → pointwise nat_eq (take 1 s) (45 ∷ []) ≡ b → has_minus s ≡ b
+unfolding has_minus
+minus_prefix [] b e = e
+minus_prefix (c ∷ cs) b e = and_true (nat_eq c 45) ∙ e
+  where
+    and_true : (a : Bool) → a ≡ (a && true)
+    and_true true = refl
+    and_true false = refl
 
 -- the digits as the code has them, and their thousandths
-read : (s : List ℕ) (minus : Bool) (k : ℕ) (x : Maybe ℕ) → minus ≡ has_minus s → k ≡ bool_byte minus → x ≡ thousandths (take (length s - k) (drop k s)) → with_sign minus x ≡ exact s
-read s minus k x e f h =
-    ap (with_sign minus) (h ∙ (ap thousandths (take_rest s k) ∙ ap (λ i. thousandths (drop i s)) (f ∙ one_or_none minus)))
-    ∙ sym (exact_with s minus (sym e))
+read : (s size : List ℕ) (minus : Bool) (x : Maybe ℕ) → pointwise nat_eq (take 1 s) (45 ∷ []) ≡ minus → size ≡ drop (cond minus 1 0) s → x ≡ thousandths size → with_sign minus x ≡ exact s
+read s size minus x p d h = ap (with_sign minus) (h ∙ ap thousandths d) ∙ sym (exact_with s minus (minus_prefix s minus p))
 
-pub returns-in_err-size : goal.returns-in_err-size
-returns-in_err-size c =
-    let s = c.args.bytes.now in
-    c.from_residual.ensures
-    ∙ read s c.has_minus-minus.result c.from.result None c.has_minus-minus.ensures.value c.from.ensures c.in_err-size.ensures.value
+pub returns-in_err-thousandths-in-Some : goal.returns-in_err-thousandths-in-Some
+returns-in_err-thousandths-in-Some c =
+    let w = c.in-Some.ensures.cases in
+    c.from_residual.ensures ∙ read c.args.bytes.now _ true None w.0 w.1 c.in_err-thousandths-in-Some.ensures.value
 
-pub returns : goal.returns
-returns c =
+pub returns-in_err-thousandths-in-None : goal.returns-in_err-thousandths-in-None
+returns-in_err-thousandths-in-None c =
     let s = c.args.bytes.now in
-    let z = c.signed.result in
-    let f : SFits w32 z = search rules in
-    ap {B = Maybe ℤ} Some (to_z-of_z w32 z f ∙ c.signed.ensures)
-    ∙ read s c.has_minus-minus.result c.from.result (Some c.in_ok-size.size) c.has_minus-minus.ensures.value c.from.ensures c.in_ok-size.ensures.value
+    c.from_residual-in_err-thousandths-in-None.ensures
+    ∙ read s s false None c.in-None.ensures.cases refl c.in_err-thousandths-in-None.ensures.value
+
+pub returns-in_ok-thousandths-in-Some : goal.returns-in_ok-thousandths-in-Some
+returns-in_ok-thousandths-in-Some c =
+    let n = c.in_ok-thousandths-in-Some.field-0 in
+    let small : n < 10 ^ 8 = c.in_ok-thousandths-in-Some.ensures.small in
+    let value : to_z w32 (of_z w32 (pos 0 -ℤ to_z w32 n)) ≡ neg_ℤ (pos n) = search rules in
+    let w = c.in-Some.ensures.cases in
+    ap {B = Maybe ℤ} Some value ∙ read c.args.bytes.now _ true (Some n) w.0 w.1 c.in_ok-thousandths-in-Some.ensures.value
+
+pub returns-in_ok-thousandths-in-None : goal.returns-in_ok-thousandths-in-None
+returns-in_ok-thousandths-in-None c =
+    let s = c.args.bytes.now in
+    let n = c.in_ok-thousandths-in-None.field-0 in
+    let small : n < 10 ^ 8 = c.in_ok-thousandths-in-None.ensures.small in
+    let value : to_z w32 n ≡ pos n = search rules in
+    ap {B = Maybe ℤ} Some value ∙ read s s false (Some n) c.in-None.ensures.cases refl c.in_ok-thousandths-in-None.ensures.value

@@ -1,7 +1,8 @@
-use Rattle.std.proofs.Common.{◌≡◌, ℕ, ◌<◌, List, take, drop, Some, None, Option as Maybe, refl, ap, ◌∙◌, rules}
-use Rattle.std.proofs.lemmas.List.{take_rest}
-use Rattle.std.proofs.lemmas.Option.{MatchOption-from_none}
+use Rattle.std.proofs.Common.{◌≡◌, ℕ, eqb, List, length, take, drop, Some, None, Option as Maybe, refl, ap, ◌∙◌, arith, rules}
+use Rattle.std.specs.List.{position}
+use Rattle.std.specs.Option.{unwrap_or}
 use Rattle.lexical.specs.Numbers.{most_whole, valued, first_point, fraction, together, thousandths}
+use Rattle.lexical.proofs.NumberFacts.{point_found, point_within}
 use Rattle.lexical.proofs.numbers.thousandths.Goals as goal
 
 -- the two parts at the place p, as the code has them
@@ -12,33 +13,35 @@ split s w r p x y e f g h k =
     let b : y ≡ fraction (drop (first_point s) s) = k ∙ ap fraction (g ∙ ap (λ i. drop i s) e) in
     cc
 
-pub returns-in_err-whole : goal.returns-in_err-whole
-returns-in_err-whole c =
-    let s = c.args.bytes.now in
-    let p = c.first_point-point.result in
-    record {
-      value = c.from_residual.ensures ∙ split s _ (drop p s) p None (fraction (drop p s)) c.first_point-point.ensures.place (search rules) refl c.in_err-whole.ensures.value refl;
-      small = MatchOption-from_none c.from_residual.result (λ n. n < 100000000) c.from_residual.ensures;
-    }
+-- where the code splits
+at_point : (s : List ℕ) (o : Maybe ℕ) (p : ℕ) → p ≡ unwrap_or o (length s) → o ≡ position (λ b. eqb b 46) s → p ≡ first_point s
+at_point s o p e f = e ∙ ap (λ x. unwrap_or x (length s)) f ∙ point_found s
 
-pub returns-in_err-part : goal.returns-in_err-part
-returns-in_err-part c =
+pub split_at-requires : goal.split_at-requires
+split_at-requires c =
     let s = c.args.bytes.now in
-    let p = c.first_point-point.result in
-    record {
-      value =
-          c.from_residual-in_err-part.ensures
-          ∙ split s _ _ p (Some c.in_ok-whole.whole) None c.first_point-point.ensures.place (search rules) (take_rest s p) c.in_ok-whole.ensures.value c.in_err-part.ensures.value;
-      small = MatchOption-from_none c.from_residual-in_err-part.result (λ n. n < 100000000) c.from_residual-in_err-part.ensures;
-    }
+    let e : c.unwrap_or.result ≡ first_point s = at_point s c.first_point.result _ c.unwrap_or.ensures c.first_point.ensures in
+    let w = point_within s in
+    omega arith
 
-pub returns : goal.returns
-returns c =
+pub returns-in_err-whole-clause-value : goal.returns-in_err-whole-clause-value
+returns-in_err-whole-clause-value c =
     let s = c.args.bytes.now in
-    let p = c.first_point-point.result in
-    let l = c.in_ok-whole.ensures.small in
-    record {
-      value =
-          split s _ _ p (Some c.in_ok-whole.whole) (Some c.in_ok-part.part) c.first_point-point.ensures.place (search rules) (take_rest s p) c.in_ok-whole.ensures.value c.in_ok-part.ensures.value;
-      small = search rules;
-    }
+    let p = c.unwrap_or.result in
+    let e : p ≡ first_point s = at_point s c.first_point.result _ c.unwrap_or.ensures c.first_point.ensures in
+    c.from_residual.ensures ∙ split s _ (drop p s) p None (fraction (drop p s)) e (search rules) refl c.in_err-whole.ensures.value refl
+
+pub returns-in_err-part-clause-value : goal.returns-in_err-part-clause-value
+returns-in_err-part-clause-value c =
+    let s = c.args.bytes.now in
+    let p = c.unwrap_or.result in
+    let e : p ≡ first_point s = at_point s c.first_point.result _ c.unwrap_or.ensures c.first_point.ensures in
+    c.from_residual-in_err-part.ensures
+    ∙ split s _ _ p (Some c.in_ok-whole.whole) None e (search rules) (search rules) c.in_ok-whole.ensures.value c.in_err-part.ensures.value
+
+pub returns-clause-value : goal.returns-clause-value
+returns-clause-value c =
+    let s = c.args.bytes.now in
+    let p = c.unwrap_or.result in
+    let e : p ≡ first_point s = at_point s c.first_point.result _ c.unwrap_or.ensures c.first_point.ensures in
+    split s _ _ p (Some c.in_ok-whole.whole) (Some c.in_ok-part.part) e (search rules) (search rules) c.in_ok-whole.ensures.value c.in_ok-part.ensures.value
