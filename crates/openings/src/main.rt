@@ -14,8 +14,8 @@ fn show_nodes(rt: &HostRuntime, nodes: &[Entry]) -> anyhow::Result<()> {
         let end = node.end;
         let name_len = node.name_len;
         let depth = node.depth;
-        let kind = if node.leaf { "leaf" } else { "branch" };
-        let value = node.value;
+        let kind = if node.value.is_some() { "leaf" } else { "branch" };
+        let value = node.value.unwrap_or_default();
         println!(rt; "{start} {end} {name_len} {depth} {kind} {value}")?;
     }
     Ok(())
@@ -77,7 +77,7 @@ fn main(rt: HostRuntime) -> anyhow::Result<()> {
     let mut input = Vec::new(rt.alloc());
     let mut source = rt.stdin();
     let _ = source.read_to_end(&mut input)?;
-    let none = Entry::branch(0, 0, 0, 0);
+    let none = Entry::default();
     let mut list = vec![in rt.alloc(); none; LONGEST_LIST]?;
     answer_all(&rt, input.as_slice(), list.as_mut_slice())
 }

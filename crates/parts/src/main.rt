@@ -46,7 +46,7 @@ fn show_second(
 
 // The first part: the list is gone before it is printed.
 fn first_alone(heap: Global, text: &[u8]) -> anyhow::Result<&[u8]> {
-    let none = Entry::branch(0, 0, 0, 0);
+    let none = Entry::default();
     let mut list = vec![in heap; none; MOST_NODES]?;
     let _ = open(text, &mut list);
     Ok(first_part(text, &list))
@@ -56,7 +56,7 @@ fn main(rt: HostRuntime) -> anyhow::Result<()> {
     let heap = rt.alloc();
     let mut text = Vec::new(heap);
     rt.stdin().read_to_end(&mut text)?;
-    let none = Entry::branch(0, 0, 0, 0);
+    let none = Entry::default();
     let mut list = vec![in heap; none; MOST_NODES]?;
     let nodes = match open(&text, &mut list) {
         Ok(nodes) => nodes,

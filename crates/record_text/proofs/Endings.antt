@@ -12,7 +12,7 @@ use Rattle.record_text.specs.declared.turn.Turn.TheVariants as turn
 use Rattle.record_text.specs.Grammar.{num}
 use Rattle.record_text.specs.Reading.{accepted, misfit}
 use Rattle.record_text.specs.Machine.{Open, Shape, move, lex}
-use Rattle.record_text.specs.Pass.{at_end, check, Done, done_after, done}
+use Rattle.record_text.specs.Pass.{at_end, check, done_after, done}
 use Rattle.record_text.specs.Cutter.{part, phase_at, left, from, from_at, GoodAt}
 use Rattle.record_text.specs.Nest.{ups}
 use Rattle.record_text.specs.Turns.{Went}

@@ -10,7 +10,6 @@ use Rattle.records.specs.Nodes.{next_depth}
 use Rattle.record_text.specs.Grammar.{Item, gap, tag, num, bytes, text, size, opening, closing, alone, Blanks, no_blank, one_more, Content, nothing, blank, element, Element, hollow, around, holding}
 use Rattle.record_text.specs.Reading.{Outcome, accepted}
 use Rattle.record_text.specs.Opening.{Reads}
-use Rattle.record_text.specs.Texts.{value_of}
 use Rattle.record_text.specs.Machine.{Open, Held, blanks, elements, value, Shape, shape, opened, Tag, opens, whole, tag_of, move, move_num}
 use Rattle.record_text.proofs.Complete.{Free, opening_tag, alone_tag, open_move, close_move, alone_move, size-++}
 use Rattle.record_text.proofs.Read.{starts, over, decide, check, start}
@@ -20,7 +19,7 @@ use Rattle.record_text.proofs.Fill.{size_holding}
 -- the first depth is at most m, and each further one at most what may follow the node before it
 abbrev pub From : ℕ → List Entry → Type 0
 From m [] = Unit {0}
-From m (e ∷ es) = (e.depth ≤ m) × From (next_depth (value_of e) e.depth) es
+From m (e ∷ es) = (e.depth ≤ m) × From (next_depth e.value e.depth) es
 
 abbrev pub Shallow : List Entry → Type 0
 Shallow [] = Unit {0}

@@ -1,5 +1,5 @@
 -- What the reader of items passes, the grammar derives.
-use Rattle.std.proofs.Common.{◌≡◌, ℕ, suc, ◌+◌, ◌-◌, ◌<◌, ◌≤◌, Bool, true, false, cond, eqb, List, [], ◌∷◌, ◌++◌, length, get_or, take, ℤ, Some, None, Option as Maybe, sym, refl, ap, ◌∙◌, subst, append_assoc, append-nil, arith, length-append}
+use Rattle.std.proofs.Common.{◌≡◌, ℕ, suc, ◌+◌, ◌<◌, ◌≤◌, Bool, true, false, cond, eqb, List, [], ◌∷◌, ◌++◌, length, get_or, take, ℤ, Some, None, Option as Maybe, sym, refl, ap, ◌∙◌, subst, append_assoc, append-nil, arith, length-append}
 use mathlib.Core.Bool.{false≢true}
 use mathlib.Core.Option.{Option, some, none}
 use Rattle.std.proofs.lemmas.Bool.{eqb-true, and_parts}

@@ -13,7 +13,7 @@ use Rattle.records.specs.Shapes.{shaped_from, proper_from}
 use Rattle.record_text.specs.declared.entry.Entry.{Entry}
 use Rattle.record_text.specs.Grammar.{Item, gap, num, bytes, text, size, opening, closing, Content, nothing, blank, element, Element, hollow, around, holding}
 use Rattle.record_text.specs.Laws.{KeepsShape}
-use Rattle.record_text.specs.Texts.{value_of, text_node, text_nodes}
+use Rattle.record_text.specs.Texts.{text_node, text_nodes}
 use Rattle.record_text.specs.Opening.{Reads}
 use Rattle.record_text.proofs.Complete.{text-++, name_byte}
 use Rattle.record_text.proofs.Shapes.{From, Shallow, depths}
@@ -25,7 +25,7 @@ NameEnds t e = (x : ℕ) × (C : List ℕ) × (name_byte x ≡ false) × (drop (
 -- each entry tells a word, which ends there, and a value in range
 abbrev pub Tells : List ℕ → List Entry → Type 0
 Tells t [] = Unit {0}
-Tells t (e ∷ es) = ((word (text_node t e).name ≡ true) × NameEnds t e) × (ranged (value_of e) ≡ true) × Tells t es
+Tells t (e ∷ es) = ((word (text_node t e).name ≡ true) × NameEnds t e) × (ranged e.value ≡ true) × Tells t es
 
 tells-++ : (t : List ℕ) (es fs : List Entry) → Tells t es → Tells t fs → Tells t (es ++ fs)
 tells-++ t [] fs a b = b
@@ -87,7 +87,7 @@ module _ (t : List ℕ) where
   shaped_all : (m : ℕ) (es : List Entry) → From m es → Shallow es → Tells t es → shaped m (text_nodes t es) ≡ true
   shaped_all m [] f s w = refl
   shaped_all m (e ∷ es) f s w =
-      shaped_from m (text_node t e) (text_nodes t es) f.0 (proper_from (text_node t e) w.0.0 s.0 w.1) (shaped_all (next_depth (value_of e) e.depth) es f.1 s.1 w.2)
+      shaped_from m (text_node t e) (text_nodes t es) f.0 (proper_from (text_node t e) w.0.0 s.0 w.1) (shaped_all (next_depth e.value e.depth) es f.1 s.1 w.2)
 
 pub tells : (t : List ℕ) (es : List Entry) → Reads t es → Tells t es
 tells t es r = let e : t ≡ text r.0 ++ [] = sym r.1.0 ∙ sym (append-nil (text r.0)) in content_tells t r.2 [] [] refl e

@@ -1,5 +1,5 @@
 -- The cutter by the items that it gives.
-use Rattle.std.specs.Prelude.{◌≡◌, ℕ, ◌+◌, ◌-◌, ◌*◌, ◌<◌, ◌≤◌, List, ◌∷◌, length, take, drop, slice_index, slice_range}
+use Rattle.std.specs.Prelude.{◌≡◌, ℕ, ◌+◌, ◌-◌, ◌*◌, ◌<◌, ◌≤◌, List, ◌∷◌, length, drop, slice_index, slice_range}
 use Rattle.record_text.specs.declared.cutter.Cutter.{Cutter}
 use Rattle.record_text.specs.declared.cutter.State.{State}
 use Rattle.record_text.specs.declared.cutter.Ended.{Ended}

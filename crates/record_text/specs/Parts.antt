@@ -1,5 +1,5 @@
 -- The part of a text that a node takes up.
-use Rattle.std.specs.Prelude.{ℕ, ◌-◌, cond, List, [], length, nat_lt, slice_index_or, slice_range}
+use Rattle.std.specs.Prelude.{ℕ, cond, List, [], length, nat_lt, slice_index_or, slice_range}
 use Rattle.record_text.specs.declared.entry.Entry.{Entry}
 use Rattle.record_text.specs.Entries.{no_entry}
 

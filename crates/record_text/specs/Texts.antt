@@ -1,17 +1,14 @@
 -- The nodes and the places that the entries of a text tell.
-use Rattle.std.specs.Prelude.{◌≡◌, ℕ, ◌+◌, ◌≤◌, true, cond, List, map, length, take, drop, ℤ, Some, None, Option}
+use Rattle.std.specs.Prelude.{◌≡◌, ℕ, ◌+◌, ◌≤◌, true, List, map, length, take, drop}
 use Rattle.std.proofs.Common.{sym, ◌∙◌, arith, length-take}
 use Rattle.std.proofs.lemmas.List.{length-map}
 use Rattle.records.specs.Limits.{most_nodes}
 use Rattle.records.specs.Nodes.{Node, Shape, shaped}
 use Rattle.record_text.specs.declared.entry.Entry.{Entry}
 
-abbrev pub value_of : Entry → Option ℤ
-value_of e = cond e.leaf (Some e.value) None
-
 -- the name stands in the text, behind the node's first `<`
 abbrev pub text_node : List ℕ → Entry → Node
-text_node t e = record { name = take e.name_len (drop (e.start + 1) t); depth = e.depth; value = value_of e }
+text_node t e = record { name = take e.name_len (drop (e.start + 1) t); depth = e.depth; value = e.value }
 
 abbrev pub text_nodes : List ℕ → List Entry → List Node
 text_nodes t es = map (text_node t) es

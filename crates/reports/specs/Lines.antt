@@ -1,5 +1,5 @@
 -- The lines of a report, as bytes. `decimal n` is the digits of n, with no zero before the first but in 0 itself.
-use Rattle.std.specs.Prelude.{ℕ, ◌+◌, ◌/◌, ◌%◌, cond, List, [], ◌∷◌, ◌++◌, map, take, drop, ℤ, pos, negsuc, Some, None, codes, decimal, Option as Maybe, unsigned_abs}
+use Rattle.std.specs.Prelude.{ℕ, ◌+◌, ◌/◌, ◌%◌, List, [], ◌∷◌, ◌++◌, map, take, drop, ℤ, pos, negsuc, Some, None, codes, decimal, Option as Maybe, unsigned_abs}
 use Rattle.record_text.specs.declared.entry.Entry.{Entry}
 
 -- a line: a word, and further words, each after a single space, up to the line's end (byte 10)
@@ -37,12 +37,9 @@ row k p d w v = line (decimal k) (decimal p ∷ decimal d ∷ w ∷ held_text v 
 abbrev pub name_text : List ℕ → Entry → List ℕ
 name_text t e = take e.name_len (drop (e.start + 1) t)
 
-abbrev pub entry_value : Entry → Maybe ℤ
-entry_value e = cond e.leaf (Some e.value) None
-
 -- the line of node k of the text t
 abbrev pub node_line : List ℕ → ℕ → Entry → List ℕ
-node_line t k e = row k e.start e.depth (name_text t e) (entry_value e)
+node_line t k e = row k e.start e.depth (name_text t e) e.value
 
 -- the lines of nodes, the first of which is node k
 abbrev pub node_lines : List ℕ → ℕ → List Entry → List ℕ

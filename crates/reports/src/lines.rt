@@ -1,7 +1,7 @@
 // The lines of a report, each added to what is written so far.
 ghost use Rattle.std.specs.Prelude.{◌≡◌, ◌+◌, ◌++◌, take, drop, OnOk};
 ghost use Rattle.refusals.specs.Refusals.{number, places};
-ghost use Rattle.reports.specs.Lines.{count_line, entry_value, front_text, held_text, name_text, node_line, node_lines, refused_line, row, total_line};
+ghost use Rattle.reports.specs.Lines.{count_line, front_text, held_text, name_text, node_line, node_lines, refused_line, row, total_line};
 
 use crate::values::push_value;
 use record_text::Entry;
@@ -32,12 +32,6 @@ fn name_of<'a>(text: &'a [u8], node: &Entry) -> &'a [u8]
     ensures { result.now ≡ name_text text.now node.now }
 {
     bytes_after(text, node.start, node.name_len)
-}
-
-fn value_of(node: &Entry) -> Option<i32>
-    ensures { result ≡ entry_value node.now }
-{
-    if node.leaf { Some(node.value) } else { None }
 }
 
 // Adds what a node holds: a leaf's value, or a hyphen.
@@ -94,7 +88,7 @@ fn push_node(
         place: node.start,
         depth: node.depth,
     };
-    push_row(heap, out, front, name_of(text, node), value_of(node))
+    push_row(heap, out, front, name_of(text, node), node.value)
 }
 
 // Adds the lines of all nodes.

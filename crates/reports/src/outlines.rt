@@ -36,7 +36,7 @@ fn listing(heap: Global, text: &[u8], nodes: &[Entry]) -> Result<Vec<u8>, AllocE
 fn report(heap: Global, text: &[u8]) -> Result<Vec<u8>, AllocError>
     ensures { IfOk result (λ v. Reported (listing text.now) text.now v.items) }
 {
-    let none = Entry::branch(0, 0, 0, 0);
+    let none = Entry::default();
     let mut list = vec![in heap; none; MOST_NODES]?;
     match open(text, &mut list) {
         Ok(nodes) => listing(heap, text, &list[..nodes]),

@@ -32,7 +32,7 @@ fn list_text(
 fn report_text(heap: Global, text: &[u8], asked: Asked<'_>) -> Result<Vec<u8>, AllocError>
     ensures { IfOk result (λ v. Reported (text_listing asked.entry.total asked.entry.hide.now asked.entry.cut text.now) text.now v.items) }
 {
-    let none = Entry::branch(0, 0, 0, 0);
+    let none = Entry::default();
     let mut list = vec![in heap; none; MOST_NODES]?;
     match open(text, &mut list) {
         Ok(nodes) => list_text(heap, text, &list[..nodes], asked),

@@ -25,7 +25,7 @@ fn main(rt: HostRuntime) -> anyhow::Result<()> {
         return Ok(());
     };
     let times = if *how_often == b'1' { 2001 } else { 1 };
-    let none = Entry::branch(0, 0, 0, 0);
+    let none = Entry::default();
     let mut list = vec![in rt.alloc(); none; MOST_NODES]?;
     let nodes = open_often(text, list.as_mut_slice(), times);
     println!(rt; "{nodes}")?;

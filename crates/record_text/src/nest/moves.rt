@@ -21,10 +21,11 @@ use records::MOST_NODES;
 fn entry(held: Held, start: usize, end: usize, name_len: usize, depth: usize) -> Entry
     ensures { result ≡ entry_of start (held_of held) end name_len depth }
 {
-    match held {
-        Held::Value(value) => Entry::leaf(start, end, name_len, depth, value),
-        Held::Blanks | Held::Elements => Entry::branch(start, end, name_len, depth),
-    }
+    let value = match held {
+        Held::Value(value) => Some(value),
+        Held::Blanks | Held::Elements => None,
+    };
+    Entry::new(start, end, name_len, depth, value)
 }
 
 // Whether the open tag has the name.

@@ -2,7 +2,7 @@
 ghost use Rattle.std.specs.Prelude.{◌≡◌, length, slice_index, slice_index_or};
 ghost use Rattle.record_text.specs.Entries.{no_entry};
 ghost use Rattle.record_text.specs.Laying.{entries_of, text_of};
-ghost use Rattle.record_text.specs.Texts.{text_level, text_node, text_nodes, text_places, text_shape, value_of};
+ghost use Rattle.record_text.specs.Texts.{text_level, text_node, text_nodes, text_places, text_shape};
 ghost use Rattle.records.specs.Nodes.{no_node};
 ghost use Rattle.std.specs.Str.{bytes_eq};
 
@@ -15,18 +15,7 @@ use records::Record;
 fn entry_at(list: &[Entry], n: usize) -> Entry
     ensures { result ≡ slice_index_or list.now n no_entry }
 {
-    if n < list.len() {
-        list[n]
-    } else {
-        Entry::branch(0, 0, 0, 0)
-    }
-}
-
-// The value that the entry tells.
-fn value_of(entry: Entry) -> Option<i32>
-    ensures { result ≡ value_of entry }
-{
-    if entry.leaf { Some(entry.value) } else { None }
+    list.get(n).copied().unwrap_or_default()
 }
 
 // Whether the entry tells the name.
@@ -71,7 +60,7 @@ impl<'t, 'n> Record for TextRecord<'t, 'n> {
     }
 
     fn value(&self, n: usize) -> Option<i32> {
-        value_of(self.entry(n))
+        self.entry(n).value
     }
 
     fn place(&self, n: usize) -> usize {

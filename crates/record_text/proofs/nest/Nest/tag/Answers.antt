@@ -1,4 +1,4 @@
-use Rattle.std.proofs.Common.{◌+◌, ◌-◌, sym, ap, ◌∙◌, arith}
+use Rattle.std.proofs.Common.{◌+◌, sym, ap, ◌∙◌, arith}
 use Rattle.record_text.specs.Cutter.{part}
 use Rattle.record_text.specs.Machine.{opens}
 use Rattle.record_text.specs.Nest.{shape_of}
