@@ -4,6 +4,7 @@
 mod kinds;
 mod laws;
 mod numbers;
+mod parts;
 mod rounding;
 mod spelled;
 mod words;
@@ -11,6 +12,7 @@ mod words;
 pub use kinds::{Kind, kind_of};
 pub use laws::{number_rule, rounding_rule, worked_numbers};
 pub use numbers::number;
+pub use parts::{after, part};
 pub use rounding::hundredths;
 pub use spelled::Word;
 pub use words::{LONGEST_WORD, is_word};
