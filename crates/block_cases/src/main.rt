@@ -6,30 +6,27 @@
 
 use blocks::{BlockRecord, MOST_NAMES};
 use records::Record;
+use std::alloc::{AllocError, Global};
 use std::io::Read;
 
-// The name whose length stands at a place, or nothing.
-fn name_at(block: &[u8], at: usize) -> &[u8] {
-    if at >= block.len() {
-        return &[];
+// The name whose length stands first, and the bytes behind it; nothing where they end before.
+fn split_name(bytes: &[u8]) -> (&[u8], &[u8]) {
+    match bytes {
+        [len, rest @ ..] if usize::from(*len) <= rest.len() => rest.split_at(usize::from(*len)),
+        _ => (&[], &[]),
     }
-    let rest = &block[at + 1..];
-    let len = usize::from(block[at]);
-    if len > rest.len() {
-        return &[];
-    }
-    &rest[..len]
 }
 
 // The number of the first name that the record takes for node n's own, or `MOST_NAMES`.
 fn first_name(record: &BlockRecord<'_>, block: &[u8], n: usize) -> usize {
-    let mut at: usize = 2;
+    // The names begin behind their count, which takes two bytes.
+    let mut names = block.get(2..).unwrap_or(&[]);
     for k in 0..MOST_NAMES {
-        let name = name_at(block, at);
+        let (name, rest) = split_name(names);
         if record.is_named(n, name) {
             return k;
         }
-        at = at.saturating_add(1).saturating_add(name.len());
+        names = rest;
     }
     MOST_NAMES
 }
@@ -61,10 +58,7 @@ fn answer(rt: &HostRuntime, block: &[u8]) -> anyhow::Result<()> {
             }
             show_node(rt, &record, block, count)?;
         }
-        Err(refusal) => {
-            let number = refusal.number();
-            println!(rt; "refused {number}")?;
-        }
+        Err(refusal) => println!(rt; "{refusal}")?,
     }
     Ok(())
 }
@@ -78,22 +72,20 @@ fn digit(b: u8) -> u8 {
     }
 }
 
+// The bytes that a line has digits for.
+fn read_block(heap: Global, line: &[u8]) -> Result<Vec<u8>, AllocError> {
+    let mut block = Vec::new(heap);
+    for digits in line.chunks_exact(2) {
+        block.push(digit(digits[0]) << 4 | digit(digits[1]))?;
+    }
+    Ok(block)
+}
+
+// Bytes after the last line's end are no case.
 fn answer_all(rt: &HostRuntime, input: &[u8]) -> anyhow::Result<()> {
-    let mut block = Vec::new(rt.alloc());
-    // The first digit of a byte, until its second one is read.
-    let mut half = None;
-    for b in input {
-        match (*b, half) {
-            (b'\n', _) => {
-                answer(rt, block.as_slice())?;
-                block.clear();
-                half = None;
-            }
-            (_, None) => half = Some(digit(*b)),
-            (_, Some(high)) => {
-                block.push(high << 4 | digit(*b))?;
-                half = None;
-            }
+    for piece in input.split_inclusive(|b| *b == b'\n') {
+        if let Some(line) = piece.strip_suffix(b"\n") {
+            answer(rt, &read_block(rt.alloc(), line)?)?;
         }
     }
     Ok(())

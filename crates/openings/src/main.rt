@@ -14,7 +14,11 @@ fn show_nodes(rt: &HostRuntime, nodes: &[Entry]) -> anyhow::Result<()> {
         let end = node.end;
         let name_len = node.name_len;
         let depth = node.depth;
-        let kind = if node.value.is_some() { "leaf" } else { "branch" };
+        let kind = if node.value.is_some() {
+            "leaf"
+        } else {
+            "branch"
+        };
         let value = node.value.unwrap_or_default();
         println!(rt; "{start} {end} {name_len} {depth} {kind} {value}")?;
     }
@@ -29,45 +33,41 @@ fn show(rt: &HostRuntime, text: &[u8], list: &mut [Entry]) -> anyhow::Result<()>
                 show_nodes(rt, &list[0..n])?;
             }
         }
-        Err(refusal) => {
-            let number = refusal.number();
-            match refusal.place() {
-                Some(place) => println!(rt; "refused {number} {place}")?,
-                None => println!(rt; "refused {number}")?,
-            }
-        }
+        Err(refusal) => println!(rt; "{refusal}")?,
     }
     Ok(())
 }
 
-// The number that the case begins with, at most `LONGEST_LIST`, and the place after the space behind it.
-fn list_length(case: &[u8]) -> (usize, usize) {
+// The number that the digits write, at most `LONGEST_LIST`.
+fn list_length(digits: &[u8]) -> usize {
     let mut n: usize = 0;
-    for i in 0..case.len() {
-        match case[i] {
-            b' ' => return (n.min(LONGEST_LIST), i + 1),
-            b => n = n.saturating_mul(10).saturating_add(usize::from(b & 15)),
-        }
+    for b in digits {
+        n = n.saturating_mul(10).saturating_add(usize::from(b & 15));
     }
-    (0, case.len())
+    n.min(LONGEST_LIST)
+}
+
+// The length of the list to lend and the text; a case without a space lends nothing and has no text.
+fn read_case(case: &[u8]) -> (usize, &[u8]) {
+    match case.iter().position(|b| *b == b' ') {
+        Some(space) => (list_length(&case[..space]), &case[space + 1..]),
+        None => (0, &[]),
+    }
 }
 
 fn answer(rt: &HostRuntime, case: &[u8], list: &mut [Entry]) -> anyhow::Result<()> {
-    let (n, from) = list_length(case);
-    if n <= list.len() && from <= case.len() {
-        show(rt, &case[from..case.len()], &mut list[0..n])?;
+    let (n, text) = read_case(case);
+    if n <= list.len() {
+        show(rt, text, &mut list[..n])?;
     }
     Ok(())
 }
 
+// Bytes after the last 0 are no case.
 fn answer_all(rt: &HostRuntime, input: &[u8], list: &mut [Entry]) -> anyhow::Result<()> {
-    let mut from = 0;
-    for i in 0..input.len() {
-        if input[i] == 0 {
-            if from <= i {
-                answer(rt, &input[from..i], list)?;
-            }
-            from = i + 1;
+    for piece in input.split_inclusive(|b| *b == 0) {
+        if let Some(case) = piece.strip_suffix(&[0]) {
+            answer(rt, case, list)?;
         }
     }
     Ok(())

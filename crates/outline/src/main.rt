@@ -27,7 +27,7 @@ fn report(heap: Global, input: &[u8], command: &Command) -> Result<Vec<u8>, Allo
 
 fn main(rt: HostRuntime) -> io::Result<()> {
     let heap = rt.alloc();
-    let Some(command) = Command::read(heap, env::args(&rt)?) else {
+    let Some(command) = Command::read(env::args(&rt)?) else {
         let report = refused(heap, Refusal::Input)?;
         return rt.stdout().write_all(&report);
     };

@@ -31,13 +31,7 @@ fn show_second(
     let _ = record.lay(text, list);
     match record.lay(other_text, other_list) {
         Ok(()) => print!(rt; "laid")?,
-        Err(refusal) => {
-            let number = refusal.number();
-            print!(rt; "refused {number}")?;
-            if let Some(place) = refusal.place() {
-                print!(rt; " {place}")?;
-            }
-        }
+        Err(refusal) => print!(rt; "{refusal}")?,
     }
     let count = record.count();
     println!(rt; ", {count} nodes")?;
@@ -58,18 +52,23 @@ fn main(rt: HostRuntime) -> anyhow::Result<()> {
     rt.stdin().read_to_end(&mut text)?;
     let none = Entry::default();
     let mut list = vec![in heap; none; MOST_NODES]?;
-    let nodes = match open(&text, &mut list) {
-        Ok(nodes) => nodes,
-        Err(_) => 0,
+    let good = match open(&text, &mut list) {
+        Ok(nodes) => &list[..nodes],
+        Err(_) => &[],
     };
     show_parts(&rt, &text, &list)?;
     let first = first_alone(heap, &text)?;
     rt.stdout().write_all(first)?;
     println!(rt; "")?;
-    let good = &list[..nodes];
     show_second(&rt, &text, good, b"", &[])?;
     show_second(&rt, &text, good, &text, &[])?;
-    show_second(&rt, &text, good, &text, &list[..nodes.saturating_sub(1)])?;
+    show_second(
+        &rt,
+        &text,
+        good,
+        &text,
+        &good[..good.len().saturating_sub(1)],
+    )?;
     show_second(&rt, &text, good, b"<a/>", good)?;
     show_second(&rt, &text, good, b"<a></b>", good)?;
     Ok(())

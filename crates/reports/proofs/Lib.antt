@@ -1,4 +1,3 @@
-pub mod Pushes
 pub mod Listing
 pub mod Reporting
 pub mod OwnNames

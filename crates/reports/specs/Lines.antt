@@ -25,10 +25,6 @@ abbrev pub held_text : Maybe ℤ → List ℕ
 held_text None = codes "-"
 held_text (Some v) = value_text v
 
--- the front of a node's line: its number, its place and its depth
-abbrev pub front_text : ℕ → ℕ → ℕ → List ℕ
-front_text k p d = decimal k ++ (codes " " ++ (decimal p ++ (codes " " ++ decimal d)))
-
 -- the line of node k: its number, its place, its depth, its name and what it holds
 abbrev pub row : ℕ → ℕ → ℕ → List ℕ → Maybe ℤ → List ℕ
 row k p d w v = line (decimal k) (decimal p ∷ decimal d ∷ w ∷ held_text v ∷ [])

@@ -3,6 +3,7 @@ use Rattle.std.specs.Prelude.{ℕ, Bool, cond, List, [], ◌++◌, Some, None, O
 use Rattle.records.specs.Nodes.{Node}
 use Rattle.records.specs.Sums.{total_of}
 use Rattle.layers.specs.Layers.{without, cut_nodes, cut_part}
+use Rattle.reports.specs.declared.piles.Asked.{Asked}
 use Rattle.reports.specs.Lines.{total_line}
 use Rattle.reports.specs.Rows.{Naming, record_listing}
 
@@ -19,3 +20,7 @@ with_hidden g t w ns ps = summed g t (without w ns ns) (without w ns ps)
 abbrev pub with_cut : Naming → Bool → List ℕ → Maybe ℕ → List Node → List ℕ → List ℕ
 with_cut g t w None ns ps = with_hidden g t w ns ps
 with_cut g t w (Some n) ns ps = with_hidden g t w (cut_nodes n ns) (cut_part n ns ps)
+
+-- all that is asked
+abbrev pub asked_of : Naming → Asked → List Node → List ℕ → List ℕ
+asked_of g a ns ps = with_cut g a.total a.hide.now a.cut ns ps

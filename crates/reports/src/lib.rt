@@ -2,9 +2,10 @@
 #![tactic(auto)]
 
 mod laws;
-mod lines;
+mod listings;
 mod outlines;
 mod piles;
+mod report;
 mod rows;
 mod sources;
 mod standing;

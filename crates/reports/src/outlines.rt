@@ -1,12 +1,13 @@
 // A record as a list of its nodes.
-ghost use Rattle.std.specs.Prelude.{◌≡◌, IfOk};
+ghost use Rattle.std.specs.Prelude.{◌≡◌, ◌++◌, IfOk, OnOk};
 ghost use Rattle.refusals.specs.Refusals.{number, places};
-ghost use Rattle.reports.specs.Lines.{refused_line};
-ghost use Rattle.reports.specs.Outlines.{Outlined, Reported, listing};
+ghost use Rattle.reports.specs.Lines.{name_text, node_line, node_lines, refused_line};
+ghost use Rattle.reports.specs.Outlines.{Outlined, listing};
 
-use crate::lines::{push_count, push_nodes, push_refused};
-use record_text::{Entry, open};
-use records::MOST_NODES;
+use crate::listings::{Listing, report_input};
+use crate::report::{Report, Row};
+use lexical::{after, part};
+use record_text::Entry;
 use refusals::Refusal;
 use std::alloc::{AllocError, Global};
 
@@ -17,30 +18,53 @@ pub const MOST_INPUT: usize = 16384;
 pub fn refused(heap: Global, refusal: Refusal) -> Result<Vec<u8>, AllocError>
     ensures { IfOk result (λ v. v.items ≡ refused_line (number refusal) (places refusal)) }
 {
-    let mut out = Vec::new(heap);
-    push_refused(heap, &mut out, refusal)?;
-    Ok(out)
+    let mut report = Report::new(heap);
+    report.refused(refusal)?;
+    Ok(report.into_bytes())
 }
 
-// A report of the nodes of a text: a line for each, and their count.
-fn listing(heap: Global, text: &[u8], nodes: &[Entry]) -> Result<Vec<u8>, AllocError>
-    ensures { IfOk result (λ v. v.items ≡ listing text.now nodes.now) }
+// The name of a node.
+fn name_of<'a>(text: &'a [u8], node: &Entry) -> &'a [u8]
+    ensures { result.now ≡ name_text text.now node.now }
 {
-    let mut out = Vec::new(heap);
-    push_nodes(heap, &mut out, text, nodes)?;
-    push_count(heap, &mut out, nodes.len())?;
-    Ok(out)
+    part(after(text, node.start), 0, node.name_len)
 }
 
-// The report of a text of any length.
-fn report(heap: Global, text: &[u8]) -> Result<Vec<u8>, AllocError>
-    ensures { IfOk result (λ v. Reported (listing text.now) text.now v.items) }
+// Adds the line of a node of the text.
+fn push_node(report: &mut Report, text: &[u8], index: usize, node: &Entry) -> Result<(), AllocError>
+    ensures { OnOk result (report.new ≡ report.old ++ node_line text.now index node.now) }
 {
-    let none = Entry::default();
-    let mut list = vec![in heap; none; MOST_NODES]?;
-    match open(text, &mut list) {
-        Ok(nodes) => listing(heap, text, &list[..nodes]),
-        Err(refusal) => refused(heap, refusal),
+    report.row(Row {
+        index,
+        place: node.start,
+        depth: node.depth,
+        name: name_of(text, node),
+        value: node.value,
+    })
+}
+
+// Adds the lines of all nodes.
+fn push_nodes(report: &mut Report, text: &[u8], nodes: &[Entry]) -> Result<(), AllocError>
+    ensures { OnOk result (report.new ≡ report.old ++ node_lines text.now 0 nodes.now) }
+{
+    for (index, node) in nodes.iter().enumerate() {
+        push_node(report, text, index, node)?;
+    }
+    Ok(())
+}
+
+// All nodes of a text: a line for each, and their count.
+#[derive(Clone, Copy)]
+struct Nodes;
+
+impl Listing for Nodes {
+    ghost said = { λ _ t es. listing t es };
+
+    fn list(&self, heap: Global, text: &[u8], entries: &[Entry]) -> Result<Vec<u8>, AllocError> {
+        let mut report = Report::new(heap);
+        push_nodes(&mut report, text, entries)?;
+        report.count(entries.len())?;
+        Ok(report.into_bytes())
     }
 }
 
@@ -48,8 +72,5 @@ fn report(heap: Global, text: &[u8]) -> Result<Vec<u8>, AllocError>
 pub fn outline(heap: Global, input: &[u8]) -> Result<Vec<u8>, AllocError>
     ensures { IfOk result (λ v. Outlined (listing input.now) input.now v.items) }
 {
-    if input.len() > MOST_INPUT {
-        return refused(heap, Refusal::Input);
-    }
-    report(heap, input)
+    report_input(heap, input, &Nodes)
 }

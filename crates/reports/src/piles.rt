@@ -1,10 +1,10 @@
 // The report of a record under layers.
 ghost use Rattle.std.specs.Prelude.{◌≡◌, IfOk};
-ghost use Rattle.reports.specs.Piles.{summed, with_cut, with_hidden};
+ghost use Rattle.reports.specs.Piles.{asked_of, summed, with_hidden};
 ghost use Rattle.reports.specs.Rows.{found};
 
-use crate::lines::push_total;
-use crate::rows::{Names, list_record};
+use crate::report::Report;
+use crate::rows::{Names, push_record};
 use layers::View;
 use records::{Record, total};
 use std::alloc::{AllocError, Global};
@@ -27,11 +27,12 @@ fn list_summed<R: Record, N: Names>(
 ) -> Result<Vec<u8>, AllocError>
     ensures { IfOk result (λ v. v.items ≡ summed (found (N.stands names.now)) with_total (R.nodes source.now) (R.places source.now)) }
 {
-    let mut out = list_record(heap, source, names)?;
+    let mut report = Report::new(heap);
+    push_record(&mut report, source, names)?;
     if with_total {
-        push_total(heap, &mut out, total(source))?;
+        report.total(total(source))?;
     }
-    Ok(out)
+    Ok(report.into_bytes())
 }
 
 // The report without the nodes of a name.
@@ -54,7 +55,7 @@ pub fn list_asked<R: Record, N: Names>(
     names: &N,
     asked: Asked<'_>,
 ) -> Result<Vec<u8>, AllocError>
-    ensures { IfOk result (λ v. v.items ≡ with_cut (found (N.stands names.now)) asked.entry.total asked.entry.hide.now asked.entry.cut (R.nodes source.now) (R.places source.now)) }
+    ensures { IfOk result (λ v. v.items ≡ asked_of (found (N.stands names.now)) asked.entry (R.nodes source.now) (R.places source.now)) }
 {
     let Some(n) = asked.cut else {
         return list_hidden(heap, source, names, asked);

@@ -3,7 +3,7 @@ ghost use Rattle.std.specs.Prelude.{◌≡◌, ℕ, List, ◌++◌, length, IfOk
 ghost use Rattle.records.specs.Nodes.{named_at};
 ghost use Rattle.reports.specs.Rows.{found, record_line, record_lines, record_listing};
 
-use crate::lines::{Front, push_count, push_row};
+use crate::report::{Report, Row};
 use records::Record;
 use std::alloc::{AllocError, Global};
 
@@ -25,37 +25,47 @@ fn own_name<'a, R: Record>(source: &R, n: usize, name: &'a [u8]) -> &'a [u8]
 
 // Adds the line of node n.
 fn push_record_line<R: Record, N: Names>(
-    heap: Global,
-    out: &mut Vec<u8>,
+    report: &mut Report,
     source: &R,
     names: &N,
     n: usize,
 ) -> Result<(), AllocError>
-    ensures { OnOk result (out.new.items ≡ out.old.items ++ record_line (found (N.stands names.now)) (R.nodes source.now) (R.places source.now) n) }
+    ensures { OnOk result (report.new ≡ report.old ++ record_line (found (N.stands names.now)) (R.nodes source.now) (R.places source.now) n) }
 {
     let place = source.place(n);
-    let front = Front {
+    report.row(Row {
         index: n,
         place,
         depth: source.depth(n),
-    };
-    let name = own_name(source, n, names.name(place));
-    push_row(heap, out, front, name, source.value(n))
+        name: own_name(source, n, names.name(place)),
+        value: source.value(n),
+    })
 }
 
 // Adds the lines of all nodes.
-fn push_record<R: Record, N: Names>(
-    heap: Global,
-    out: &mut Vec<u8>,
+fn push_lines<R: Record, N: Names>(
+    report: &mut Report,
     source: &R,
     names: &N,
 ) -> Result<(), AllocError>
-    ensures { OnOk result (out.new.items ≡ out.old.items ++ record_lines (found (N.stands names.now)) (R.nodes source.now) (R.places source.now) 0 (length (R.nodes source.now))) }
+    ensures { OnOk result (report.new ≡ report.old ++ record_lines (found (N.stands names.now)) (R.nodes source.now) (R.places source.now) 0 (length (R.nodes source.now))) }
 {
     for n in 0..source.count() {
-        push_record_line(heap, out, source, names, n)?;
+        push_record_line(report, source, names, n)?;
     }
     Ok(())
+}
+
+// Adds the lines of all nodes, and their count.
+pub(crate) fn push_record<R: Record, N: Names>(
+    report: &mut Report,
+    source: &R,
+    names: &N,
+) -> Result<(), AllocError>
+    ensures { OnOk result (report.new ≡ report.old ++ record_listing (found (N.stands names.now)) (R.nodes source.now) (R.places source.now)) }
+{
+    push_lines(report, source, names)?;
+    report.count(source.count())
 }
 
 // The report of a record: a line a node, and their count.
@@ -66,8 +76,7 @@ pub fn list_record<R: Record, N: Names>(
 ) -> Result<Vec<u8>, AllocError>
     ensures { IfOk result (λ v. v.items ≡ record_listing (found (N.stands names.now)) (R.nodes source.now) (R.places source.now)) }
 {
-    let mut out = Vec::new(heap);
-    push_record(heap, &mut out, source, names)?;
-    push_count(heap, &mut out, source.count())?;
-    Ok(out)
+    let mut report = Report::new(heap);
+    push_record(&mut report, source, names)?;
+    Ok(report.into_bytes())
 }

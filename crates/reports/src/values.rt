@@ -1,8 +1,16 @@
 // Values as text.
-ghost use Rattle.std.specs.Prelude.{◌≡◌, ◌++◌, OnOk};
-ghost use Rattle.reports.specs.Lines.{sign_text, value_text};
+ghost use Rattle.std.specs.Prelude.{◌≡◌, Some};
+ghost use Rattle.reports.specs.Lines.{held_text, sign_text, value_text};
 
-use std::alloc::{AllocError, Global};
+use std::fmt;
+
+// A number of hundredths, as a decimal with two digits after the point.
+#[derive(Clone, Copy)]
+pub(crate) struct Hundredths(pub i64);
+
+// What a node holds: a leaf's value in hundredths, or for a branch a hyphen.
+#[derive(Clone, Copy)]
+pub(crate) struct Held(pub Option<i32>);
 
 // The minus of a number below zero.
 fn sign(value: i64) -> &'static str
@@ -11,15 +19,29 @@ fn sign(value: i64) -> &'static str
     if value < 0 { "-" } else { "" }
 }
 
-// Adds hundredths as a decimal with two digits after the point.
-pub(crate) fn push_value(heap: Global, out: &mut Vec<u8>, hundredths: i64) -> Result<(), AllocError>
-    ensures { OnOk result (out.new.items ≡ out.old.items ++ value_text hundredths) }
-{
-    let sign = sign(hundredths);
-    let size = hundredths.unsigned_abs();
-    let whole = size / 100;
-    let tenths = size / 10 % 10;
-    let last = size % 10;
-    let text = format!(in heap; "{sign}{whole}.{tenths}{last}")?;
-    out.extend_from_slice(text.as_bytes())
+impl fmt::Display for Hundredths {
+    ghost output = { λ h. Some (value_text h.0) };
+
+    fn fmt<W: fmt::Write>(&self, f: &mut fmt::Formatter<W>) -> fmt::Result {
+        let sign = sign(self.0);
+        let size = self.0.unsigned_abs();
+        let whole = size / 100;
+        let tenths = size / 10 % 10;
+        let last = size % 10;
+        write!(f, "{sign}{whole}.{tenths}{last}")
+    }
+}
+
+impl fmt::Display for Held {
+    ghost output = { λ h. Some (held_text h.0) };
+
+    fn fmt<W: fmt::Write>(&self, f: &mut fmt::Formatter<W>) -> fmt::Result {
+        match self.0 {
+            Some(value) => {
+                let value = Hundredths(i64::from(value));
+                write!(f, "{value}")
+            }
+            None => write!(f, "-"),
+        }
+    }
 }

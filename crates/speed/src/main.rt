@@ -8,7 +8,7 @@ use std::io::Read;
 
 fn open_often(text: &[u8], list: &mut [Entry], times: usize) -> usize {
     let mut nodes = 0;
-    for _i in 0..times {
+    for _ in 0..times {
         match open(text, list) {
             Ok(n) => nodes = n,
             Err(_) => return 0,
