@@ -29,8 +29,8 @@ pub fn outline_text(heap: Global, input: &[u8], asked: Asked<'_>) -> Result<Vec<
     report_input(heap, input, &asked)
 }
 
-// The report of a gate block.
-fn report_block(heap: Global, block: &[u8], asked: Asked<'_>) -> Result<Vec<u8>, AllocError>
+// The report that is asked of a gate block, or the line of a refusal.
+pub fn outline_block(heap: Global, block: &[u8], asked: Asked<'_>) -> Result<Vec<u8>, AllocError>
     ensures { IfOk result (λ v. v.items ≡ block_report asked.entry block.now) }
 {
     let mut record = BlockRecord::empty();
@@ -38,11 +38,4 @@ fn report_block(heap: Global, block: &[u8], asked: Asked<'_>) -> Result<Vec<u8>,
         Ok(()) => list_asked(heap, &record, &record, asked),
         Err(refusal) => refused(heap, refusal),
     }
-}
-
-// The report that is asked of a gate block, or the line of a refusal.
-pub fn outline_block(heap: Global, block: &[u8], asked: Asked<'_>) -> Result<Vec<u8>, AllocError>
-    ensures { IfOk result (λ v. v.items ≡ block_report asked.entry block.now) }
-{
-    report_block(heap, block, asked)
 }

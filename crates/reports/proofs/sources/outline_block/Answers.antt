@@ -1,6 +1,6 @@
 use Rattle.std.proofs.Common.{vec_items}
 use Rattle.reports.proofs.Sourcing.{block_taken}
-use Rattle.reports.proofs.sources.report_block.Goals as goal
+use Rattle.reports.proofs.sources.outline_block.Goals as goal
 
 pub returns-in-Ok : goal.returns-in-Ok
 returns-in-Ok c =
