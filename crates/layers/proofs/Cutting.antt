@@ -1,13 +1,15 @@
 -- What a cut shows has the shape of a record.
-use Rattle.std.proofs.Common.{◌≡◌, ℕ, zero, suc, ◌+◌, ◌-◌, ◌<◌, ◌≤◌, Bool, true, false, cond, ltb, List, [], ◌∷◌, ◌++◌, map, length, get_or, take, drop, ℤ, Some, None, Option, sym, refl, ap, ◌∙◌, subst, inl, inr, add-one, arith}
-use Rattle.std.proofs.lemmas.List.{drop_more, drop_all, append-nil, append_assoc, map-append, take-map, drop-map, length-map, length-drop}
-use Rattle.std.proofs.lemmas.Bool.{cases_lt, ltb-true}
+use Rattle.std.proofs.Common.{◌≡◌, ℕ, zero, suc, ◌+◌, ◌-◌, ◌<◌, ◌≤◌, Bool, true, false, cond, ◌||◌, ltb, eqb, List, [], ◌∷◌, ◌++◌, map, length, get_or, take, drop, ℤ, Some, None, Option, sym, refl, ap, ◌∙◌, subst, inl, inr, add-one, arith}
+use Rattle.std.specs.List.{range_with_len, take_while}
+use Rattle.std.proofs.lemmas.List.{drop_more, drop_all, map-append, take-map, drop-map, length-map, length-drop}
+use Rattle.std.proofs.lemmas.List.Sums.{take_while-cons}
+use Rattle.std.proofs.lemmas.Bool.{cases_lt, eq-eqb, ne_eqb, ltb-true}
 use Rattle.records.specs.Limits.{most_nodes}
 use Rattle.records.specs.Nodes.{Node, no_node, next_depth, shaped, Shape, depth_at}
 use Rattle.layers.specs.Layers.{Taken, Selected, run, cut_part, lowered, cut_nodes, Cuts}
 use Rattle.layers.specs.Views.{cut_entries, under, is_none, entry_of, entries, outlined, raised, viewed, view_nodes, view_places}
 use Rattle.records.specs.Shapes.{shaped_depth, shaped_proper, shaped_rest, proper_low}
-use Rattle.layers.specs.Viewing.{outlined_from, view_all, view_all_places}
+use Rattle.layers.specs.Viewing.{outlined_from}
 use Rattle.layers.proofs.Selecting.{cut_selects}
 use Rattle.layers.proofs.Entries.{length_entries, getD_entries, view_entries, places_entries}
 use Rattle.layers.specs.declared.view.Shown.{Shown}
@@ -96,11 +98,39 @@ module _ (n : ℕ) (ns : List Node) where
         ∙ ap (λ (xs : List Shown). map (raised d) (run d (get_or ns i no_node ∷ drop (i + 1) ns) xs)) (drop_more (entries 0 ns) i e (omega arith))
         ∙ ap (λ (s : Shown). map (raised d) (cond (ltb d (depth_at ns i)) (s ∷ run d (drop (i + 1) ns) (drop (i + 1) (entries 0 ns))) [])) (getD_entries 0 ns i e h ∙ ap (λ (j : ℕ). entry_of j (get_or ns i no_node)) (omega arith))
 
-    pub cut_more : true ≡ ltb (depth_at ns n) (depth_at ns i) → to_cut i ≡ raised (depth_at ns n) (entry_of i (get_or ns i no_node)) ∷ to_cut (i + 1)
-    cut_more d = cut_step ∙ ap (λ (b : Bool). map (raised (depth_at ns n)) (cond b (entry_of i (get_or ns i no_node) ∷ run (depth_at ns n) (drop (i + 1) ns) (drop (i + 1) (entries 0 ns))) [])) (sym d)
+  -- the entries as a chain over the numbers makes them
+  abbrev pub goes : ℕ → Bool
+  goes i = eqb i n || ltb (depth_at ns n) (depth_at ns i)
 
-    pub cut_stop : false ≡ ltb (depth_at ns n) (depth_at ns i) → to_cut i ≡ []
-    cut_stop d = cut_step ∙ ap (λ (b : Bool). map (raised (depth_at ns n)) (cond b (entry_of i (get_or ns i no_node) ∷ run (depth_at ns n) (drop (i + 1) ns) (drop (i + 1) (entries 0 ns))) [])) (sym d)
+  abbrev pub cut_entry : ℕ → Shown
+  cut_entry i = raised (depth_at ns n) (entry_of i (get_or ns i no_node))
+
+  cut_rest : (i k : ℕ) → i + k ≡ length ns → n < i → map cut_entry (take_while goes (range_with_len i k)) ≡ to_cut i
+  cut_rest i zero e h = sym (cut_end i (omega arith))
+  cut_rest i (suc k) e h =
+      let rest = take_while goes (range_with_len (i + 1) k) in
+      let d = depth_at ns n in
+      ap (map cut_entry) (take_while-cons goes i (range_with_len (i + 1) k) ∙ ap (λ (b : Bool). cond (b || ltb d (depth_at ns i)) (i ∷ rest) []) (ne_eqb i n (omega arith)))
+      ∙ (elim (ltb d (depth_at ns i)) as (λ b. map cut_entry (cond b (i ∷ rest) []) ≡ map (raised d) (cond b (entry_of i (get_or ns i no_node) ∷ run d (drop (i + 1) ns) (drop (i + 1) (entries 0 ns))) [])) [
+        | true ↦ ap (λ (l : List Shown). cut_entry i ∷ l) (cut_rest (i + 1) k (omega arith) (omega arith))
+        | false ↦ refl
+      ])
+      ∙ sym (cut_step i (omega arith))
+
+  pub cut_chain : map cut_entry (take_while goes (range_with_len n (length ns - n))) ≡ cut_entries n ns
+  cut_chain = elim (cases_lt n (length ns)) [
+    | inl h ↦
+        let k = length ns - (n + 1) in
+        let more : length ns - n ≡ suc k = omega arith in
+        let rest = take_while goes (range_with_len (n + 1) k) in
+        ap (λ (m : ℕ). map cut_entry (take_while goes (range_with_len n m))) more
+        ∙ ap (map cut_entry) (take_while-cons goes n (range_with_len (n + 1) k) ∙ ap (λ (b : Bool). cond (b || ltb (depth_at ns n) (depth_at ns n)) (n ∷ rest) []) (eq-eqb n n refl))
+        ∙ ap (λ (l : List Shown). cut_entry n ∷ l) (cut_rest (n + 1) k (omega arith) (omega arith))
+        ∙ sym (cut_first h)
+    | inr h ↦
+        let none : length ns - n ≡ 0 = omega arith in
+        ap (λ (m : ℕ). map cut_entry (take_while goes (range_with_len n m))) none ∙ sym (cut_none h)
+  ]
 
   module _ (shape : Shape ns) where
     pub cut_few : length (cut_entries n ns) ≤ most_nodes
@@ -130,24 +160,22 @@ module _ (n : ℕ) (ns : List Node) where
           | inr h ↦ ap (outlined (length ns) 0) (cut_none h)
         ]
 
-    cut_shown : view_nodes (length ns) (cut_entries n ns) ns ≡ cut_nodes n ns
+    cut_shown : view_nodes ns (cut_entries n ns) ≡ cut_nodes n ns
     cut_shown =
         let d = depth_at ns n in
         let part = cut_part n ns (entries 0 ns) in
-        view_all (length ns) (cut_entries n ns) ns (omega arith)
-        ∙ map_twice (viewed ns) (raised d) part
+        map_twice (viewed ns) (raised d) part
         ∙ sym (map_twice (lowered d) (viewed ns) part)
         ∙ ap (map (lowered d)) (map_cut (viewed ns) n ns (entries 0 ns) ∙ ap (λ (l : List Node). cut_part n ns l) (view_entries ns 0 ns (λ k l. ap (λ (j : ℕ). get_or ns j no_node) (omega arith))))
 
-    cut_places : (ps : List ℕ) → length ps ≡ length ns → view_places (length ns) (cut_entries n ns) ns ps ≡ cut_part n ns ps
+    cut_places : (ps : List ℕ) → length ps ≡ length ns → view_places ps (cut_entries n ns) ≡ cut_part n ns ps
     cut_places ps level =
         let f : Shown → ℕ = λ s. get_or ps s.at 0 in
-        view_all_places (length ns) (cut_entries n ns) ns ps (omega arith)
-        ∙ map_twice f (raised (depth_at ns n)) (cut_part n ns (entries 0 ns))
+        map_twice f (raised (depth_at ns n)) (cut_part n ns (entries 0 ns))
         ∙ map_cut f n ns (entries 0 ns)
         ∙ ap (λ (l : List ℕ). cut_part n ns l) (places_entries ps 0 ns ps level (λ k l. ap (λ (j : ℕ). get_or ps j 0) (omega arith)))
 
-    pub cuts : (ps : List ℕ) → length ps ≡ length ns → Cuts n ns ps (view_nodes (length ns) (cut_entries n ns) ns) (view_places (length ns) (cut_entries n ns) ns ps)
+    pub cuts : (ps : List ℕ) → length ps ≡ length ns → Cuts n ns ps (view_nodes ns (cut_entries n ns)) (view_places ps (cut_entries n ns))
     cuts ps level =
         record {
           nodes = cut_shown;
@@ -155,11 +183,3 @@ module _ (n : ℕ) (ns : List Node) where
           taken = (cut_part n ns ns, cut_selects n ns ns refl, cut_shown);
           taken_places = subst (Selected (Taken n ns) 0 ps) (sym (cut_places ps level)) (cut_selects n ns ps level);
         }
-
-  module _ (items items' : List Shown) where
-    pub cut_push : (i : ℕ) (s : Shown) → items ++ to_cut i ≡ (cut_entries n ns) → items' ≡ items ++ s ∷ [] → to_cut i ≡ s ∷ to_cut (i + 1) → items' ++ to_cut (i + 1) ≡ (cut_entries n ns)
-    cut_push i s inv e f =
-        ap (λ (l : List Shown). l ++ to_cut (i + 1)) e ∙ append_assoc items (s ∷ []) (to_cut (i + 1)) ∙ ap (λ (l : List Shown). items ++ l) (sym f) ∙ inv
-
-    pub cut_done : (i : ℕ) → items ++ to_cut i ≡ (cut_entries n ns) → to_cut i ≡ [] → items' ≡ items → items' ≡ (cut_entries n ns)
-    cut_done i inv f e = e ∙ sym (append-nil items) ∙ ap (λ (l : List Shown). items ++ l) (sym f) ∙ inv
