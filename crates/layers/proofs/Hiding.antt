@@ -1,13 +1,11 @@
 -- What a layer that hides a name shows has the shape of a record.
-use Rattle.std.proofs.Common.{◌≡◌, ℕ, suc, ◌+◌, ◌<◌, ◌≤◌, true, false, List, [], ◌∷◌, ◌++◌, map, length, get_or, drop, ℤ, Some, None, Option, sym, refl, ap, ◌∙◌, subst, arith}
+use Rattle.std.proofs.Common.{◌≡◌, ℕ, suc, ◌+◌, ◌<◌, ◌≤◌, true, false, List, [], ◌∷◌, ◌++◌, map, length, get_or, drop, Some, None, Option, sym, refl, ap, ◌∙◌, subst, arith}
 use Rattle.std.specs.Option.{is_some}
 use Rattle.std.proofs.lemmas.List.{drop_more, drop_all, append-nil, append_assoc}
-use Rattle.records.specs.Limits.{most_nodes}
-use Rattle.records.specs.Nodes.{Node, no_node, next_depth, shaped, Shape}
+use Rattle.records.specs.Nodes.{Node, no_node, next_depth, proper, shaped, Shape}
 use Rattle.layers.specs.Layers.{Kept, Selected, hidden_by, unless_hidden, shown, without, Hides}
-use Rattle.layers.specs.Views.{under, is_none, entry_of, entries, outlined, viewed, view_nodes, view_places}
-use Rattle.records.specs.Shapes.{shaped_depth, shaped_from, shaped_proper, shaped_rest, proper_low}
-use Rattle.layers.specs.Viewing.{outlined_from}
+use Rattle.layers.specs.Views.{entry_of, entries, viewed, view_nodes, view_places}
+use Rattle.records.specs.Shapes.{shaped_depth, shaped_from, shaped_proper, shaped_rest}
 use Rattle.layers.proofs.Selecting.{Under, Step, stays, begins, ends, step_at, hidden_selects}
 use Rattle.layers.proofs.Entries.{length_entries, getD_entries, view_entries, places_entries}
 use Rattle.layers.specs.declared.view.Shown.{Shown}
@@ -35,10 +33,6 @@ length_shown w top (n ∷ ns) (x ∷ xs) =
     let after = hidden_by w top n in
     omega (arith, length_shown w after ns xs, length_unless after x (shown w after ns xs))
 
-under_room : (v : Option ℤ) (d : ℕ) → next_depth v d ≡ under (is_none v) d
-under_room None d = refl
-under_room (Some z) d = refl
-
 -- Where nothing is being left out, what may follow (at depth m at most) fits into p; else the hidden node does.
 abbrev Fits : Option ℕ → ℕ → ℕ → Type 0
 Fits None m p = m ≤ p
@@ -48,23 +42,19 @@ fits_here : (top : Option ℕ) (d m p : ℕ) → Fits top m p → d ≤ m → (U
 fits_here None d m p f l o = omega arith
 fits_here (Some top) d m p f l o = omega arith
 
--- one node, where the rest has the outline
-node_outlined : (w : List ℕ) (count i m p : ℕ) (n : Node) (f : Option ℕ → List Shown) (top after : Option ℕ) → shaped m (n ∷ []) ≡ true → i < count → Fits top m p →
-    ((t : Option ℕ) (q : ℕ) → Fits t (next_depth n.value n.depth) q → outlined count q (f t) ≡ true) → Step w n top after →
-    outlined count p (unless_hidden after (entry_of i n) (f after)) ≡ true
-node_outlined w count i m p n f top after h l k rest (stays {t = t} d) = rest (Some t) p k
-node_outlined w count i m p n f top after h l k rest (begins o e) = rest (Some n.depth) p (fits_here top n.depth m p k (shaped_depth m n [] h) o)
-node_outlined w count i m p n f top after h l k rest (ends o e) =
-    let u = under_room n.value n.depth in
-    outlined_from count p (entry_of i n) (f None) l (fits_here top n.depth m p k (shaped_depth m n [] h) o) (proper_low n (shaped_proper m n [] h))
-    (rest None (under (is_none n.value) n.depth) (omega arith))
+-- one node, where the rest is in shape
+node_shaped : (w : List ℕ) (m p : ℕ) (n : Node) (f : Option ℕ → List Node) (top after : Option ℕ) → n.depth ≤ m → proper n ≡ true → Fits top m p →
+    ((t : Option ℕ) (q : ℕ) → Fits t (next_depth n.value n.depth) q → shaped q (f t) ≡ true) → Step w n top after →
+    shaped p (unless_hidden after n (f after)) ≡ true
+node_shaped w m p n f top after d r k rest (stays {t = t} l) = rest (Some t) p k
+node_shaped w m p n f top after d r k rest (begins o e) = rest (Some n.depth) p (fits_here top n.depth m p k d o)
+node_shaped w m p n f top after d r k rest (ends o e) = shaped_from p n (f None) (fits_here top n.depth m p k d o) r (rest None (next_depth n.value n.depth) (omega arith))
 
-pub shown_outlined : (w : List ℕ) (count i m p : ℕ) (top : Option ℕ) (ns : List Node) → shaped m ns ≡ true → i + length ns ≤ count → Fits top m p → outlined count p (shown w top ns (entries i ns)) ≡ true
-shown_outlined w count i m p top [] h l k = refl
-shown_outlined w count i m p top (n ∷ ns) h l k =
-    node_outlined w count i m p n (λ t. shown w t ns (entries (i + 1) ns)) top (hidden_by w top n)
-    (shaped_from m n [] (shaped_depth m n ns h) (shaped_proper m n ns h) refl) (omega arith) k
-    (λ t q f. shown_outlined w count (i + 1) (next_depth n.value n.depth) q t ns (shaped_rest m n ns h) (omega arith) f)
+shown_shaped : (w : List ℕ) (m p : ℕ) (top : Option ℕ) (ns : List Node) → shaped m ns ≡ true → Fits top m p → shaped p (shown w top ns ns) ≡ true
+shown_shaped w m p top [] h k = refl
+shown_shaped w m p top (n ∷ ns) h k =
+    node_shaped w m p n (λ t. shown w t ns ns) top (hidden_by w top n) (shaped_depth m n ns h) (shaped_proper m n ns h) k
+    (λ t q f. shown_shaped w (next_depth n.value n.depth) q t ns (shaped_rest m n ns h) f)
     (step_at w n top)
 
 shown_if : {X : Type 0} (top : Option ℕ) (x : X) (xs : List X) → is_some top ≡ false → unless_hidden top x xs ≡ x ∷ xs
@@ -94,16 +84,13 @@ module _ (w : List ℕ) (ns : List Node) where
       sym (append-nil items) ∙ ap (λ (l : List Shown). items ++ l) (sym none) ∙ e
 
   module _ (items : List Shown) (e : items ≡ without w ns (entries 0 ns)) where
-    pub hide_few : Shape ns → length items ≤ most_nodes
-    hide_few shape = let a = ap length e in let b = length_shown w None ns (entries 0 ns) in let s = shape.0 in omega arith
-
-    pub hide_outlined : Shape ns → outlined (length ns) 0 items ≡ true
-    hide_outlined shape = ap (λ (l : List Shown). outlined (length ns) 0 l) e ∙ shown_outlined w (length ns) 0 0 0 None ns shape.1 (omega arith) (omega arith)
-
     hide_nodes : view_nodes ns items ≡ without w ns ns
     hide_nodes =
         ap (map (viewed ns)) e ∙ map_shown (viewed ns) w None ns (entries 0 ns)
         ∙ ap (λ (l : List Node). without w ns l) (view_entries ns 0 ns (λ k l. ap (λ (j : ℕ). get_or ns j no_node) (omega arith)))
+
+    pub hide_shape : Shape ns → Shape (view_nodes ns items)
+    hide_shape s = subst Shape (sym hide_nodes) (omega (arith, s.0, length_shown w None ns ns), shown_shaped w 0 0 None ns s.1 (omega arith))
 
     hide_places : (ps : List ℕ) → length ps ≡ length ns → view_places ps items ≡ without w ns ps
     hide_places ps level =

@@ -1,21 +1,18 @@
 // A view of the record below: some of its nodes, at their depths or lower ones.
-ghost use Rattle.std.specs.Prelude.{◌≡◌, ◌≤◌, true, length, slice_index_or};
-ghost use Rattle.layers.specs.Viewing.{view_level, view_shape};
-ghost use Rattle.layers.specs.Views.{Seen, entry_of, outlined, raised, view_nodes, view_places};
-ghost use Rattle.records.specs.Nodes.{no_node};
-ghost use Rattle.records.specs.Limits.{most_nodes};
+ghost use Rattle.std.specs.Prelude.{◌≡◌, slice_index_or};
+ghost use Rattle.layers.specs.Views.{Seen, entry_of, raised, view_level, view_nodes, view_places};
+ghost use Rattle.records.specs.Nodes.{Shape, no_node};
 
 use records::Record;
 
 mod cut;
 mod hide;
 
-// A node that is shown: its number below, its depth here, and whether nodes may stand beneath it.
+// A node that is shown: its number below, and its depth here.
 #[derive(Clone, Copy)]
 pub struct Shown {
     pub at: usize,
     pub depth: usize,
-    pub inner: bool,
 }
 
 // The nodes of the record below that are shown.
@@ -23,20 +20,16 @@ pub struct Shown {
 pub struct View<'r, R: Record> {
     below: &'r R,
     shown: Vec<Shown>,
-    ghost few: { length shown.items ≤ most_nodes },
-    ghost ok: { outlined (length (R.nodes below.now)) 0 shown.items ≡ true },
+    ghost in_shape: { Shape (view_nodes (R.nodes below.now) shown.items) },
 }
 
 // Node n, shown `base` higher up.
 fn raise<R: Record>(below: &R, n: usize, base: usize) -> Shown
     ensures { result ≡ raised base (entry_of n (slice_index_or (R.nodes below.now) n no_node)) }
 {
-    let depth = below.depth(n).saturating_sub(base);
-    let inner = below.value(n).is_none();
     Shown {
         at: n,
-        depth,
-        inner,
+        depth: below.depth(n).saturating_sub(base),
     }
 }
 
@@ -54,7 +47,7 @@ impl<'r, R: Record> Record for View<'r, R> {
 
     ghost places = { λ v. view_places (R.places v.below.now) v.shown.items };
 
-    ghost shape = { λ v. view_shape (R.nodes v.below.now) v.shown.items (R.shape v.below.now) v.few v.ok };
+    ghost shape = { λ v. v.in_shape };
 
     ghost placed = { λ v. view_level (R.nodes v.below.now) v.shown.items (R.places v.below.now) };
 
@@ -67,11 +60,7 @@ impl<'r, R: Record> Record for View<'r, R> {
     }
 
     fn value(&self, n: usize) -> Option<i32> {
-        let node = self.seen(n)?;
-        if node.inner {
-            return None;
-        }
-        self.below.value(node.at)
+        self.below.value(self.seen(n)?.at)
     }
 
     fn place(&self, n: usize) -> usize {

@@ -1,13 +1,12 @@
 use Rattle.std.proofs.Common.{vec_items}
-use Rattle.layers.proofs.Hiding.{hide_few, hide_outlined, hides}
+use Rattle.layers.proofs.Hiding.{hide_shape, hides}
 use Rattle.layers.proofs.view.View.hide.Goals as goal
 
 pub invariant_of-result : goal.invariant_of-result
 invariant_of-result g c =
     let ns = g.R.Record.nodes c.args.below.now in
     let s = g.R.Record.shape c.args.below.now in
-    let items = vec_items c.in_ok-shown.shown in
-    record { few = hide_few c.args.name.now ns items c.in_ok-shown.ensures s; ok = hide_outlined c.args.name.now ns items c.in_ok-shown.ensures s }
+    record { in_shape = hide_shape c.args.name.now ns (vec_items c.in_ok-shown.shown) c.in_ok-shown.ensures s }
 
 pub returns : goal.returns
 returns g c =

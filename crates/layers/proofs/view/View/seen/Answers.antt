@@ -14,4 +14,4 @@ returns g c =
     subst (Seen ns ps (vec_items v.shown) c.args.n) (sym c.copied.ensures)
     (seen ns ps (vec_items v.shown) c.args.n c.get.result
     (c.get.ensures.lookup.0 ∙ ap (λ (l : List Shown). ltb c.args.n (length l)) items)
-    (subst (λ (l : List Shown). IfSome c.get.result (λ x. x.now ≡ get_or l c.args.n x.now)) items c.get.ensures.lookup.1) v.ok)
+    (subst (λ (l : List Shown). IfSome c.get.result (λ x. x.now ≡ get_or l c.args.n x.now)) items c.get.ensures.lookup.1) v.in_shape)
