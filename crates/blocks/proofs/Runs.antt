@@ -2,15 +2,14 @@
 use Rattle.std.proofs.Common.{◌≡◌, ℕ, zero, suc, ◌+◌, ◌-◌, ◌<◌, ◌≤◌, Bool, true, false, cond, ◌&&◌, eqb, ltb, leb, List, map, length, take, drop, ℤ, pos, negsuc, neg_ℤ, nat_abs, Some, None, Option, sym, refl, ap, ◌∙◌, arith}
 use Rattle.std.specs.List.{range_with_len}
 use Rattle.std.proofs.lemmas.List.{take_rest}
-use Rattle.std.proofs.lemmas.Bool.{and_parts, cond-true, eq-eqb, le-leb, lt-ltb, leb-true, ltb-true}
+use Rattle.std.proofs.lemmas.Bool.{and_parts, eq-eqb, le-leb, leb-true, ltb-true}
 use Rattle.lexical.specs.Rounding.{hundredths, nearest}
 use Rattle.lexical.specs.Words.{all, word}
 use Rattle.records.specs.Limits.{greatest_value, most_levels, most_nodes}
 use Rattle.records.specs.Nodes.{next_depth, ranged, shaped}
 use Rattle.blocks.specs.Layout.{branch, greatest_thousandths, leaf, most_names}
 use Rattle.blocks.specs.Places.{all_fit, all_words, block_nodes, good_block, name_count, name_of, name_number, node_at, node_count, node_depth, node_fits, node_kind, node_start, node_thousandths, node_value, size_fits}
-use Rattle.blocks.specs.Reading.{follows, room_after, room_of, row_at, row_of}
-use Rattle.blocks.specs.declared.row.Row.{Row}
+use Rattle.blocks.specs.Reading.{follows, room_after, row_at, row_of}
 use Rattle.blocks.specs.declared.plan.Plan.{Plan}
 use Rattle.blocks.proofs.Alls.{all_at}
 use Rattle.blocks.proofs.Deriving.{row_cut}
@@ -91,44 +90,20 @@ module _ (bs : List ℕ) (few_names : name_count bs ≤ most_names) (words : all
   run_decides : (n : ℕ) (t : Bool) → n ≡ node_count bs → run bs 0 0 n ≡ t → t ≡ good_block bs
   run_decides n t e r = sym r ∙ ap (run bs 0 0) e ∙ run_is bs words 0 0 (node_count bs) ∙ sym nodes_decide
 
+-- the same of a plan
+pub plan_decides : (x : Plan) (t : Bool) → run x.block.now 0 0 x.count ≡ t → t ≡ good_block x.block.now
+plan_decides x t r =
+    let named = x.named in
+    let few_names = x.few_names in
+    let counts = x.counts in
+    let few = x.few in
+    let begins = x.begins in
+    let whole = x.whole in
+    run_decides x.block.now (omega arith) x.words (omega arith) (omega arith) x.count t x.counts r
+
 -- a node is read from the bytes at its place
 pub row_read : (bs : List ℕ) (at place : ℕ) → place ≡ at → at + 7 ≤ length bs → row_of (take (length bs - place) (drop place bs)) ≡ row_at bs at
 row_read bs at place e h = ap (λ (k : ℕ). row_of (take (length bs - k) (drop k bs))) e ∙ ap row_of (take_rest bs at ∙ row_cut bs at h)
-
--- what is answered of a node: the greatest depth that may follow it, if it fits
-abbrev pub room_then : ℕ → ℕ → Option Row → Option ℕ
-room_then names m None = None
-room_then names m (Some row) = room_of names m row
-
-both_fit : (l s x : Bool) (names m : ℕ) (row : Row) (d : ℕ) → room_of names m row ≡ cond (l && x) (Some d) None → room_then names m (cond s (Some row) None) ≡ cond ((l && s) && x) (Some d) None
-both_fit true true x names m row d e = e
-both_fit false true x names m row d e = e
-both_fit true false x names m row d e = refl
-both_fit false false x names m row d e = refl
-
-pub room_at : (bs : List ℕ) (at m : ℕ) → room_then (name_count bs) m (row_at bs at) ≡ room_after bs at m
-room_at bs at m =
-    both_fit (ltb (name_number bs at) (name_count bs)) (size_fits (node_kind bs at) (nat_abs (node_thousandths bs at))) (leb (node_depth bs at) m && ltb (node_depth bs at) most_levels) (name_count bs) m
-    (record { name = name_number bs at; depth = node_depth bs at; value = node_value bs at }) (next_room bs at) refl
-
--- the same of a plan
-module _ (x : Plan) where
-  pub plan_decides : (t : Bool) → run x.block.now 0 0 x.count ≡ t → t ≡ good_block x.block.now
-  plan_decides t r =
-      let named = x.named in
-      let few_names = x.few_names in
-      let counts = x.counts in
-      let few = x.few in
-      let begins = x.begins in
-      let whole = x.whole in
-      run_decides x.block.now (omega arith) x.words (omega arith) (omega arith) x.count t x.counts r
-
-  pub plan_room : (i m : ℕ) (row : Option Row) → i < x.count → row ≡ cond (ltb i x.count) (row_at x.block.now (node_start x.block.now i)) None → room_then x.names m row ≡ room_after x.block.now (node_start x.block.now i) m
-  plan_room i m row l e =
-      let bs = x.block.now in
-      let at = node_start bs i in
-      let there : cond (ltb i x.count) (row_at bs at) None ≡ row_at bs at = cond-true (ltb i x.count) (row_at bs at) None (lt-ltb i x.count l) in
-      ap (room_then x.names m) (e ∙ there) ∙ ap (λ (n : ℕ). room_then n m (row_at bs at)) x.named ∙ room_at bs at m
 
 -- what a node's answer says of the run that it begins
 module _ (bs : List ℕ) (m i n : ℕ) where
@@ -142,7 +117,7 @@ module _ (bs : List ℕ) (m i n : ℕ) where
   run_fails h e =
       run_more h
       ∙ (elim there as (λ t. ◌≡◌ {A = Option ℕ} (cond t (Some (next_room bs (node_start bs i))) None) None → (t && run bs (next_room bs (node_start bs i)) (i + 1) (n - (i + 1))) ≡ false) [
-        | true ↦ λ q. let z : ◌≡◌ {A = ℕ} 0 1 = cc in absurd (omega arith)
+        | true ↦ λ q. cc
         | false ↦ λ q. refl
       ]) e
 
@@ -151,7 +126,7 @@ module _ (bs : List ℕ) (m i n : ℕ) where
       run_more h
       ∙ (elim there as (λ t. cond t (Some (next_room bs (node_start bs i))) None ≡ Some d → (t && run bs (next_room bs (node_start bs i)) (i + 1) (n - (i + 1))) ≡ run bs d (i + 1) (n - (i + 1))) [
         | true ↦ λ q. let r : next_room bs (node_start bs i) ≡ d = cc in ap (λ (x : ℕ). run bs x (i + 1) (n - (i + 1))) r
-        | false ↦ λ q. let z : ◌≡◌ {A = ℕ} 0 1 = cc in absurd (omega arith)
+        | false ↦ λ q. cc
       ]) e
 
   pub run_done : n ≤ i → run bs m i (n - i) ≡ true
