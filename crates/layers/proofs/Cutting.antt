@@ -2,6 +2,7 @@
 use Rattle.std.proofs.Common.{◌≡◌, ℕ, zero, suc, ◌+◌, ◌-◌, ◌<◌, ◌≤◌, Bool, true, false, cond, ◌||◌, ltb, eqb, List, [], ◌∷◌, ◌++◌, map, length, get_or, take, drop, ℤ, Some, None, Option, sym, refl, ap, ◌∙◌, subst, inl, inr, add-one, arith}
 use Rattle.std.specs.List.{range_with_len, take_while}
 use Rattle.std.proofs.lemmas.List.{drop_more, drop_all, map-append, take-map, drop-map, length-map, length-drop}
+use Rattle.std.proofs.lemmas.Simd.{map-map}
 use Rattle.std.proofs.lemmas.List.Sums.{take_while-cons}
 use Rattle.std.proofs.lemmas.Bool.{cases_lt, eq-eqb, ne_eqb, ltb-true}
 use Rattle.records.specs.Nodes.{Node, no_node, next_depth, proper, shaped, Shape, depth_at}
@@ -11,10 +12,6 @@ use Rattle.records.specs.Shapes.{shaped_depth, shaped_from, shaped_proper, shape
 use Rattle.layers.proofs.Selecting.{cut_selects}
 use Rattle.layers.proofs.Entries.{length_entries, getD_entries, view_entries, places_entries}
 use Rattle.layers.specs.declared.view.Shown.{Shown}
-
-map_twice : {X Y Z : Type 0} (f : Y → Z) (g : X → Y) (xs : List X) → map f (map g xs) ≡ map (λ x. f (g x)) xs
-map_twice f g [] = refl
-map_twice f g (x ∷ xs) = ap (λ l. f (g x) ∷ l) (map_twice f g xs)
 
 pub map_run : {X Y : Type 0} (f : X → Y) (d : ℕ) (ns : List Node) (xs : List X) → map f (run d ns xs) ≡ run d ns (map f xs)
 map_run f d [] xs = refl
@@ -157,14 +154,14 @@ module _ (n : ℕ) (ns : List Node) where
   cut_shown =
       let d = depth_at ns n in
       let part = cut_part n ns (entries 0 ns) in
-      map_twice (viewed ns) (raised d) part
-      ∙ sym (map_twice (lowered d) (viewed ns) part)
+      map-map (viewed ns) (raised d) part
+      ∙ sym (map-map (lowered d) (viewed ns) part)
       ∙ ap (map (lowered d)) (map_cut (viewed ns) n ns (entries 0 ns) ∙ ap (λ (l : List Node). cut_part n ns l) (view_entries ns 0 ns (λ k l. ap (λ (j : ℕ). get_or ns j no_node) (omega arith))))
 
   cut_places : (ps : List ℕ) → length ps ≡ length ns → view_places ps (cut_entries n ns) ≡ cut_part n ns ps
   cut_places ps level =
       let f : Shown → ℕ = λ s. get_or ps s.at 0 in
-      map_twice f (raised (depth_at ns n)) (cut_part n ns (entries 0 ns))
+      map-map f (raised (depth_at ns n)) (cut_part n ns (entries 0 ns))
       ∙ map_cut f n ns (entries 0 ns)
       ∙ ap (λ (l : List ℕ). cut_part n ns l) (places_entries ps 0 ns ps level (λ k l. ap (λ (j : ℕ). get_or ps j 0) (omega arith)))
 

@@ -1,7 +1,7 @@
 -- What a layer that hides a name shows has the shape of a record.
 use Rattle.std.proofs.Common.{◌≡◌, ℕ, suc, ◌+◌, ◌<◌, ◌≤◌, true, false, List, [], ◌∷◌, ◌++◌, map, length, get_or, drop, Some, None, Option, sym, refl, ap, ◌∙◌, subst, arith}
 use Rattle.std.specs.Option.{is_some}
-use Rattle.std.proofs.lemmas.List.{drop_more, drop_all, append-nil, append_assoc}
+use Rattle.std.proofs.lemmas.List.{drop_more, append_assoc}
 use Rattle.records.specs.Nodes.{Node, no_node, next_depth, proper, shaped, Shape}
 use Rattle.layers.specs.Layers.{Kept, Selected, hidden_by, unless_hidden, shown, without, Hides}
 use Rattle.layers.specs.Views.{entry_of, entries, viewed, view_nodes, view_places}
@@ -77,11 +77,6 @@ module _ (w : List ℕ) (ns : List Node) where
       ap (λ l. shown w top l (drop i (entries 0 ns))) (drop_more ns i no_node h)
       ∙ ap (λ l. shown w top (n ∷ drop (i + 1) ns) l) (drop_more (entries 0 ns) i (entry_of i n) (omega arith))
       ∙ ap (λ (s : Shown). unless_hidden (hidden_by w top n) s (to_come (hidden_by w top n) (i + 1))) (getD_entries 0 ns i (entry_of i n) h ∙ ap (λ (j : ℕ). entry_of j n) (omega arith))
-
-  pub come_all : (items : List Shown) (top : Option ℕ) (i : ℕ) → length ns ≤ i → items ++ to_come top i ≡ without w ns (entries 0 ns) → items ≡ without w ns (entries 0 ns)
-  come_all items top i h e =
-      let none : to_come top i ≡ [] = ap (λ (l : List Node). shown w top l (drop i (entries 0 ns))) (drop_all i ns h) in
-      sym (append-nil items) ∙ ap (λ (l : List Shown). items ++ l) (sym none) ∙ e
 
   module _ (items : List Shown) (e : items ≡ without w ns (entries 0 ns)) where
     hide_nodes : view_nodes ns items ≡ without w ns ns

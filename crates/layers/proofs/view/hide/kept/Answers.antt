@@ -2,7 +2,7 @@ use Rattle.std.proofs.Common.{◌<◌, ◌++◌, [], ◌∷◌, length, get_or, 
 use Rattle.records.specs.Nodes.{no_node}
 use Rattle.layers.specs.declared.view.Shown.{Shown}
 use Rattle.layers.specs.Views.{entry_of}
-use Rattle.layers.proofs.Hiding.{come_all, step_shows, step_hides}
+use Rattle.layers.proofs.Hiding.{step_shows, step_hides}
 use Rattle.layers.proofs.Entries.{raised_none}
 use Rattle.layers.proofs.view.hide.kept.Goals as goal
 use Rattle.layers.proofs.view.hide.kept.Goals.{then-is_none+in_ok-push, else-is_none}
@@ -20,7 +20,3 @@ loop-n-preserved g c =
           step_hides c.args.name.now ns (vec_items c.loop-n.shown) (vec_items c.if-is_none.shown) c.loop-n.top c.hidden_by-top.result i c.loop-n.invariant h c.hidden_by-top.ensures
           w.if-is_none.ensures (ap vec_items w.shown-is)
     ]
-
-pub returns : goal.returns
-returns g c =
-    come_all c.args.name.now (g.R.Record.nodes c.args.below.now) (vec_items c.loop-n.shown) c.loop-n.top c.loop-n.n (omega (arith, c.count-n-end.ensures, c.loop-n-test.false)) c.loop-n.invariant
