@@ -95,6 +95,7 @@ impl<'b> Plan<'b> {
     pub(crate) fn is_good(&self) -> bool
         ensures { result ≡ good_block self.now.block.now }
     {
+        // The nodes are walked by number, since that is how each question reads one.
         let mut room = 0;
         for i in 0..self.count {
             let Some(next) = self.room_after(i, room) else {
