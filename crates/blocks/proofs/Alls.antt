@@ -1,21 +1,15 @@
 -- A test of every number of a run.
-use Rattle.std.proofs.Common.{◌≡◌, ℕ, zero, suc, ◌+◌, ◌-◌, ◌<◌, ◌≤◌, Bool, true, false, ◌&&◌, sym, ap, ◌∙◌, inl, inr, arith}
+use Rattle.std.proofs.Common.{◌≡◌, ℕ, zero, suc, ◌+◌, ◌-◌, ◌<◌, ◌≤◌, Bool, true, ◌&&◌, sym, ap, ◌∙◌, inl, inr, arith}
 use Rattle.std.specs.List.{range_with_len}
-use Rattle.std.proofs.lemmas.Bool.{and_left, and_parts, cases_eq}
+use Rattle.std.proofs.lemmas.Bool.{and_parts, cases_eq}
 use Rattle.lexical.specs.Words.{all}
 
 module _ (p : ℕ → Bool) (i n : ℕ) where
-  pub all_more : i < n → all p (range_with_len i (n - i)) ≡ (p i && all p (range_with_len (i + 1) (n - (i + 1))))
+  all_more : i < n → all p (range_with_len i (n - i)) ≡ (p i && all p (range_with_len (i + 1) (n - (i + 1))))
   all_more h = let e : n - i ≡ suc (n - (i + 1)) = omega arith in ap (λ (k : ℕ). all p (range_with_len i k)) e
-
-  pub all_fails : i < n → p i ≡ false → all p (range_with_len i (n - i)) ≡ false
-  all_fails h e = all_more h ∙ and_left (p i) _ e
 
   pub all_next : i < n → p i ≡ true → all p (range_with_len i (n - i)) ≡ all p (range_with_len (i + 1) (n - (i + 1)))
   all_next h e = all_more h ∙ ap (λ (b : Bool). b && all p (range_with_len (i + 1) (n - (i + 1)))) e
-
-  pub all_done : n ≤ i → all p (range_with_len i (n - i)) ≡ true
-  all_done h = let e : n - i ≡ 0 = omega arith in ap (λ (k : ℕ). all p (range_with_len i k)) e
 
 -- each number of the run passes
 pub all_at : (p : ℕ → Bool) (i k j : ℕ) → all p (range_with_len i k) ≡ true → i ≤ j → j < i + k → p j ≡ true

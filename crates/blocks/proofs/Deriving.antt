@@ -54,6 +54,21 @@ seven (a ∷ (b ∷ [])) h = absurd (omega arith)
 seven (a ∷ []) h = absurd (omega arith)
 seven [] h = absurd (omega arith)
 
+-- the seven bytes of a node, where it is there whole
+pub row_cut : (bs : List ℕ) (at : ℕ) → at + 7 ≤ length bs → drop at bs ≡ name_number bs at ∷ node_depth bs at ∷ node_kind bs at ∷ get_or bs (at + 3) 0 ∷ get_or bs (at + 3 + 1) 0 ∷ get_or bs (at + 3 + 2) 0 ∷ get_or bs (at + 3 + 3) 0 ∷ drop (at + 7) bs
+row_cut bs at h =
+    let e : (i j : ℕ) → at + i ≡ j → get_or (drop at bs) i 0 ≡ get_or bs j 0 = λ i j q. get_or-drop at bs i 0 ∙ ap (λ (n : ℕ). get_or bs n 0) q in
+    let e₀ = e 0 at (omega arith) in
+    let e₁ = e 1 (at + 1) refl in
+    let e₂ = e 2 (at + 2) refl in
+    let e₃ = e 3 (at + 3) refl in
+    let e₄ = e 4 (at + 3 + 1) (omega arith) in
+    let e₅ = e 5 (at + 3 + 2) (omega arith) in
+    let e₆ = e 6 (at + 3 + 3) (omega arith) in
+    let r = drop-drop 7 at bs in
+    let s = seven (drop at bs) (omega (arith, length-drop at bs)) in
+    cc
+
 no_size : (z : ℤ) → nat_abs z ≡ 0 → z ≡ pos 0
 no_size (pos n) h = ap pos h
 no_size (negsuc n) h = absurd (omega arith)
@@ -63,20 +78,6 @@ module _ (bs : List ℕ) (ws : List (List ℕ)) (count : name_count bs ≡ lengt
   rows_as {ys = ys} {ms = ms} p q d = subst (λ (t : List Node). Rows ws ys t) q (subst (λ (t : List ℕ). Rows ws t ms) p d)
 
   module _ (at : ℕ) where
-    row_cut : at + 7 ≤ length bs → drop at bs ≡ name_number bs at ∷ node_depth bs at ∷ node_kind bs at ∷ get_or bs (at + 3) 0 ∷ get_or bs (at + 3 + 1) 0 ∷ get_or bs (at + 3 + 2) 0 ∷ get_or bs (at + 3 + 3) 0 ∷ drop (at + 7) bs
-    row_cut h =
-        let e : (i j : ℕ) → at + i ≡ j → get_or (drop at bs) i 0 ≡ get_or bs j 0 = λ i j q. get_or-drop at bs i 0 ∙ ap (λ (n : ℕ). get_or bs n 0) q in
-        let e₀ = e 0 at (omega arith) in
-        let e₁ = e 1 (at + 1) refl in
-        let e₂ = e 2 (at + 2) refl in
-        let e₃ = e 3 (at + 3) refl in
-        let e₄ = e 4 (at + 3 + 1) (omega arith) in
-        let e₅ = e 5 (at + 3 + 2) (omega arith) in
-        let e₆ = e 6 (at + 3 + 3) (omega arith) in
-        let r = drop-drop 7 at bs in
-        let s = seven (drop at bs) (omega (arith, length-drop at bs)) in
-        cc
-
     -- one node in front
     row_derive : (rest : List Node) → at + 7 ≤ length bs → node_fits bs (name_count bs) at ≡ true → Rows ws (drop (at + 7) bs) rest → Rows ws (drop at bs) (node_at bs at ∷ rest)
     row_derive rest h f more =
@@ -92,7 +93,7 @@ module _ (bs : List ℕ) (ws : List (List ℕ)) (count : name_count bs ≡ lengt
         let parts = and_parts (ltb k (name_count bs)) _ f in
         let known : k < length ws = omega (arith, ltb-true k (name_count bs) parts.0) in
         let bytes : (x : ℕ) → kind ≡ x → k ∷ depth ∷ x ∷ a ∷ b ∷ c ∷ d ∷ ys ≡ drop at bs =
-        λ x e. sym (row_cut h ∙ ap {B = List ℕ} (λ (y : ℕ). k ∷ depth ∷ y ∷ a ∷ b ∷ c ∷ d ∷ ys) e) in
+        λ x e. sym (row_cut bs at h ∙ ap {B = List ℕ} (λ (y : ℕ). k ∷ depth ∷ y ∷ a ∷ b ∷ c ∷ d ∷ ys) e) in
         let nodes : (v : Option ℤ) → ◌≡◌ {A = List Node} (record { name = get_or ws k []; depth = depth; value = v } ∷ rest) (record { name = name_of bs k; depth = depth; value = v } ∷ rest) =
         λ v. ap {B = List Node} (λ (n : List ℕ). record { name = n; depth = depth; value = v } ∷ rest) (sym (named k known)) in
         (elim (eqb kind leaf) as (λ t. eqb kind leaf ≡ t → cond t (leb (nat_abs z) greatest_thousandths) (eqb kind branch && eqb (nat_abs z) 0) ≡ true → Rows ws (drop at bs) (record { name = name_of bs k; depth = depth; value = cond t (Some (hundredths z)) None } ∷ rest)) [

@@ -1,35 +1,44 @@
 -- What is answered of a node that is there, and of one that is not.
-use Rattle.std.proofs.Common.{◌≡◌, ℕ, ◌<◌, ◌≤◌, Bool, true, ◌&&◌, ltb, List, length, get_or, sym, ap, ◌∙◌, arith}
+use Rattle.std.proofs.Common.{◌≡◌, ℕ, ◌<◌, ◌≤◌, Bool, true, false, cond, ◌&&◌, ltb, List, length, get_or, MatchOption, Some, None, Option, sym, refl, subst, ap, ◌∙◌, arith}
 use Rattle.std.specs.Str.{bytes_eq}
 use Rattle.std.proofs.lemmas.List.FromFn.{get_or-range_with_len, get_or-map-range_with_len, length-range_with_len}
 use Rattle.std.proofs.lemmas.List.{get_or_past}
-use Rattle.std.proofs.lemmas.Bool.{and_left, and_parts, le-ltb, lt-ltb, ltb-true}
+use Rattle.std.proofs.lemmas.Bool.{and_left, and_parts, le-ltb, lt-ltb, ltb-true, ltb-false}
 use Rattle.records.specs.Nodes.{Node, no_node}
-use Rattle.blocks.specs.Places.{block_nodes, block_places, good_block, name_count, name_number, node_at, node_count, node_fits, node_start}
-use Rattle.blocks.specs.Reading.{Found, Missing}
+use Rattle.blocks.specs.Places.{block_nodes, block_places, good_block, name_count, name_number, node_at, node_count, node_depth, node_fits, node_start, node_value}
+use Rattle.blocks.specs.Reading.{Found, Missing, row_at}
+use Rattle.blocks.specs.declared.row.Row.{Row}
 use Rattle.blocks.specs.Shaping.{good_parts, block_length}
 use Rattle.blocks.proofs.Alls.{all_at}
 
 module _ (bs : List ℕ) (n : ℕ) where
-  pub found : good_block bs ≡ true → n < length (block_nodes bs) → Found bs n (node_start bs n)
-  found good h =
+  -- the row of a node that is there and fits
+  abbrev row : Row
+  row = let at = node_start bs n in record { name = name_number bs at; depth = node_depth bs at; value = node_value bs at }
+
+  found : good_block bs ≡ true → n < node_count bs → (row_at bs (node_start bs n) ≡ Some row) × Found bs n row
+  found good there =
+      let at = node_start bs n in
       let l = block_length bs in
-      let there : n < node_count bs = omega arith in
       let is : get_or (block_nodes bs) n no_node ≡ node_at bs (node_start bs n) = get_or-map-range_with_len (λ i. node_at bs (node_start bs i)) 0 (node_count bs) n n no_node there (omega arith) in
       let fit : node_fits bs (name_count bs) (node_start bs n) ≡ true =
       all_at (λ i. node_fits bs (name_count bs) (node_start bs i)) 0 (node_count bs) n (good_parts bs good).fit (omega arith) (omega arith) in
-      record {
-        depth = ap (λ (m : Node). m.depth) (sym is);
-        value = ap (λ (m : Node). m.value) (sym is);
-        named = λ w. sym (ap (λ (t : Bool). t && bytes_eq (get_or (block_nodes bs) n no_node).name w) (lt-ltb n (length (block_nodes bs)) h) ∙ ap (λ (m : Node). bytes_eq m.name w) is);
-        name = ap (λ (m : Node). m.name) (sym is);
-        known = ltb-true (name_number bs (node_start bs n)) (name_count bs) (and_parts (ltb (name_number bs (node_start bs n)) (name_count bs)) _ fit).0;
-        place = sym (get_or-range_with_len 0 (node_count bs) n 0 there ∙ omega arith);
-      }
+      let both = and_parts (ltb (name_number bs at) (name_count bs)) _ fit in (
+        ap (λ (t : Bool). cond t (Some row) None) both.1,
+        record {
+          depth = ap (λ (m : Node). m.depth) (sym is);
+          value = ap (λ (m : Node). m.value) (sym is);
+          named = λ w. sym (ap (λ (t : Bool). t && bytes_eq (get_or (block_nodes bs) n no_node).name w) (lt-ltb n (length (block_nodes bs)) (omega arith)) ∙ ap (λ (m : Node). bytes_eq m.name w) is);
+          name = ap (λ (m : Node). m.name) (sym is);
+          known = ltb-true (name_number bs (node_start bs n)) (name_count bs) both.0;
+          place = sym (get_or-range_with_len 0 (node_count bs) n 0 there ∙ omega arith);
+        },
+      )
 
-  pub missing : length (block_nodes bs) ≤ n → Missing bs n
-  missing h =
+  missing : node_count bs ≤ n → Missing bs n
+  missing m =
       let l = block_length bs in
+      let h : length (block_nodes bs) ≤ n = omega arith in
       let is : get_or (block_nodes bs) n no_node ≡ no_node = get_or_past (block_nodes bs) n no_node h in
       record {
         depth = ap (λ (m : Node). m.depth) (sym is);
@@ -38,3 +47,11 @@ module _ (bs : List ℕ) (n : ℕ) where
         name = ap (λ (m : Node). m.name) (sym is);
         place = sym (let k = length-range_with_len 0 (node_count bs) in get_or_past (block_places bs) n 0 (omega arith));
       }
+
+  -- what is answered of node n
+  pub finding : good_block bs ≡ true → MatchOption (cond (ltb n (node_count bs)) (row_at bs (node_start bs n)) None) (Missing bs n) (λ r. Found bs n r)
+  finding good =
+      elim (ltb n (node_count bs)) as (λ t. ltb n (node_count bs) ≡ t → MatchOption (cond t (row_at bs (node_start bs n)) None) (Missing bs n) (λ r. Found bs n r)) [
+        | true ↦ λ e. let f = found good (ltb-true n (node_count bs) e) in subst (λ (r : Option Row). MatchOption r (Missing bs n) (λ r. Found bs n r)) (sym f.0) f.1
+        | false ↦ λ e. missing (ltb-false n (node_count bs) e)
+      ] refl

@@ -1,5 +1,4 @@
 mod Alls
-mod Cuts
 mod Runs
 mod Findings
 mod Derived

@@ -1,20 +1,27 @@
 -- The nodes of a block, one after another.
-use Rattle.std.proofs.Common.{◌≡◌, ℕ, zero, suc, ◌+◌, ◌-◌, ◌*◌, ◌<◌, ◌≤◌, Bool, true, false, cond, ◌&&◌, eqb, ltb, leb, List, map, ℤ, pos, negsuc, neg_ℤ, nat_abs, Some, None, Option, sym, refl, ap, ◌∙◌, arith}
+use Rattle.std.proofs.Common.{◌≡◌, ℕ, zero, suc, ◌+◌, ◌-◌, ◌<◌, ◌≤◌, Bool, true, false, cond, ◌&&◌, eqb, ltb, leb, List, map, length, take, drop, ℤ, pos, negsuc, neg_ℤ, nat_abs, Some, None, Option, sym, refl, ap, ◌∙◌, arith}
 use Rattle.std.specs.List.{range_with_len}
-use Rattle.std.proofs.lemmas.Bool.{and_parts, le-leb, leb-true, ltb-true}
+use Rattle.std.proofs.lemmas.List.{take_rest}
+use Rattle.std.proofs.lemmas.Bool.{and_parts, eq-eqb, le-leb, leb-true, ltb-true}
 use Rattle.lexical.specs.Rounding.{hundredths, nearest}
 use Rattle.lexical.specs.Words.{all, word}
-use Rattle.records.specs.Limits.{greatest_value, most_levels}
+use Rattle.records.specs.Limits.{greatest_value, most_levels, most_nodes}
 use Rattle.records.specs.Nodes.{next_depth, ranged, shaped}
-use Rattle.blocks.specs.Layout.{branch, greatest_thousandths, leaf, node_bytes}
-use Rattle.blocks.specs.Places.{all_fit, all_words, block_nodes, name_count, name_of, name_number, node_at, node_count, node_depth, node_fits, node_kind, node_start, node_thousandths, node_value, size_fits}
-use Rattle.blocks.specs.Reading.{follows, next_room, room_after}
+use Rattle.blocks.specs.Layout.{branch, greatest_thousandths, leaf, most_names}
+use Rattle.blocks.specs.Places.{all_fit, all_words, block_nodes, good_block, name_count, name_of, name_number, node_at, node_count, node_depth, node_fits, node_kind, node_start, node_thousandths, node_value, size_fits}
+use Rattle.blocks.specs.Reading.{follows, room_after, row_at, row_of}
+use Rattle.blocks.specs.declared.plan.Plan.{Plan}
 use Rattle.blocks.proofs.Alls.{all_at}
+use Rattle.blocks.proofs.Deriving.{row_cut}
+
+-- the greatest depth that may follow it
+abbrev pub next_room : List ℕ → ℕ → ℕ
+next_room bs at = next_depth (node_value bs at) (node_depth bs at)
 
 -- k nodes from i on fit, the first at depth m at most
 abbrev pub run : List ℕ → ℕ → ℕ → ℕ → Bool
 run bs m i zero = true
-run bs m i (suc k) = follows bs (name_count bs) (node_start bs i) m && run bs (next_room bs (node_start bs i)) (i + 1) k
+run bs m i (suc k) = follows bs (node_start bs i) m && run bs (next_room bs (node_start bs i)) (i + 1) k
 
 neg_size : (n : ℕ) → nat_abs (neg_ℤ (pos n)) ≡ n
 neg_size zero = refl
@@ -33,10 +40,6 @@ value_ranged k z =
       | false ↦ λ h. refl
     ]
 
-room_is : (b : Bool) (z : ℤ) (d : ℕ) → cond b d (d + 1) ≡ next_depth (cond b (Some z) None) d
-room_is true z d = refl
-room_is false z d = refl
-
 shuffle : (x y a s : Bool) → ((x && y) && (a && s)) ≡ (a && (x && ((y && true) && s)))
 shuffle true true a s = refl
 shuffle true false true s = refl
@@ -54,7 +57,7 @@ module _ (bs : List ℕ) (words : all_words bs (name_count bs) ≡ true) where
   fit_ranged at h = value_ranged (node_kind bs at) (node_thousandths bs at) (and_parts (ltb (name_number bs at) (name_count bs)) _ h).1
 
   -- a run that fits is one of nodes that fit, in the shape of records
-  pub run_is : (m i k : ℕ) → run bs m i k ≡ (all (λ j. node_fits bs (name_count bs) (node_start bs j)) (range_with_len i k) && shaped m (map (λ j. node_at bs (node_start bs j)) (range_with_len i k)))
+  run_is : (m i k : ℕ) → run bs m i k ≡ (all (λ j. node_fits bs (name_count bs) (node_start bs j)) (range_with_len i k) && shaped m (map (λ j. node_at bs (node_start bs j)) (range_with_len i k)))
   run_is m i zero = refl
   run_is m i (suc k) =
       let at = node_start bs i in
@@ -70,44 +73,60 @@ module _ (bs : List ℕ) (words : all_words bs (name_count bs) ≡ true) where
         | true ↦ λ h.
             ap (λ (r : Bool). (x && y) && r) (run_is (next_room bs at) (i + 1) k)
             ∙ shuffle x y A (shaped (next_room bs at) rest)
-            ∙ ap (λ (r : ℕ). A && (x && ((y && true) && shaped r rest))) (room_is (eqb (node_kind bs at) leaf) (hundredths (node_thousandths bs at)) (node_depth bs at))
             ∙ ap (λ (t : Bool). A && (x && ((t && (y && true)) && S))) (sym (fit_word at h))
             ∙ ap (λ (t : Bool). A && (x && ((w && (y && t)) && S))) (sym (fit_ranged at h))
         | false ↦ λ h. refl
       ] refl
 
-  -- the run of all nodes
-  pub run_of_all : (n : ℕ) (t : Bool) → n ≡ node_count bs → run bs 0 0 n ≡ t → t ≡ (all_fit bs (node_count bs) && shaped 0 (block_nodes bs))
-  run_of_all n t e r = sym r ∙ ap (run bs 0 0) e ∙ run_is 0 0 (node_count bs)
+-- where all but the nodes is good, they decide
+module _ (bs : List ℕ) (few_names : name_count bs ≤ most_names) (words : all_words bs (name_count bs) ≡ true) (few_nodes : node_count bs ≤ most_nodes) (whole : length bs ≡ node_start bs (node_count bs)) where
+  nodes_decide : good_block bs ≡ (all_fit bs (node_count bs) && shaped 0 (block_nodes bs))
+  nodes_decide =
+      ap (λ (t : Bool). t && (all_words bs (name_count bs) && (leb (node_count bs) most_nodes && (eqb (length bs) (node_start bs (node_count bs)) && (all_fit bs (node_count bs) && shaped 0 (block_nodes bs)))))) (le-leb (name_count bs) most_names few_names)
+      ∙ ap (λ (t : Bool). t && (leb (node_count bs) most_nodes && (eqb (length bs) (node_start bs (node_count bs)) && (all_fit bs (node_count bs) && shaped 0 (block_nodes bs))))) words
+      ∙ ap (λ (t : Bool). t && (eqb (length bs) (node_start bs (node_count bs)) && (all_fit bs (node_count bs) && shaped 0 (block_nodes bs)))) (le-leb (node_count bs) most_nodes few_nodes)
+      ∙ ap (λ (t : Bool). t && (all_fit bs (node_count bs) && shaped 0 (block_nodes bs))) (eq-eqb (length bs) (node_start bs (node_count bs)) whole)
 
--- what is answered at the place of node i
-pub answer_at : (bs : List ℕ) (names first i m : ℕ) → names ≡ name_count bs → first ≡ node_start bs 0 → room_after bs (name_count bs) (node_start bs i) m ≡ room_after bs names (first + node_bytes * i) m
-answer_at bs names first i m e f =
-    let place : node_start bs i ≡ first + node_bytes * i = omega arith in
-    ap {B = Option ℕ} (λ (at : ℕ). room_after bs (name_count bs) at m) place ∙ ap {B = Option ℕ} (λ (n : ℕ). room_after bs n (first + node_bytes * i) m) (sym e)
+  run_decides : (n : ℕ) (t : Bool) → n ≡ node_count bs → run bs 0 0 n ≡ t → t ≡ good_block bs
+  run_decides n t e r = sym r ∙ ap (run bs 0 0) e ∙ run_is bs words 0 0 (node_count bs) ∙ sym nodes_decide
+
+-- the same of a plan
+pub plan_decides : (x : Plan) (t : Bool) → run x.block.now 0 0 x.count ≡ t → t ≡ good_block x.block.now
+plan_decides x t r =
+    let named = x.named in
+    let few_names = x.few_names in
+    let counts = x.counts in
+    let few = x.few in
+    let begins = x.begins in
+    let whole = x.whole in
+    run_decides x.block.now (omega arith) x.words (omega arith) (omega arith) x.count t x.counts r
+
+-- a node is read from the bytes at its place
+pub row_read : (bs : List ℕ) (at place : ℕ) → place ≡ at → at + 7 ≤ length bs → row_of (take (length bs - place) (drop place bs)) ≡ row_at bs at
+row_read bs at place e h = ap (λ (k : ℕ). row_of (take (length bs - k) (drop k bs))) e ∙ ap row_of (take_rest bs at ∙ row_cut bs at h)
 
 -- what a node's answer says of the run that it begins
 module _ (bs : List ℕ) (m i n : ℕ) where
   abbrev there : Bool
-  there = follows bs (name_count bs) (node_start bs i) m
+  there = follows bs (node_start bs i) m
 
   run_more : i < n → run bs m i (n - i) ≡ (there && run bs (next_room bs (node_start bs i)) (i + 1) (n - (i + 1)))
   run_more h = let e : n - i ≡ suc (n - (i + 1)) = omega arith in ap (run bs m i) e
 
-  pub run_fails : i < n → ◌≡◌ {A = Option ℕ} (room_after bs (name_count bs) (node_start bs i) m) None → run bs m i (n - i) ≡ false
+  pub run_fails : i < n → ◌≡◌ {A = Option ℕ} (room_after bs (node_start bs i) m) None → run bs m i (n - i) ≡ false
   run_fails h e =
       run_more h
       ∙ (elim there as (λ t. ◌≡◌ {A = Option ℕ} (cond t (Some (next_room bs (node_start bs i))) None) None → (t && run bs (next_room bs (node_start bs i)) (i + 1) (n - (i + 1))) ≡ false) [
-        | true ↦ λ q. let z : ◌≡◌ {A = ℕ} 0 1 = cc in absurd (omega arith)
+        | true ↦ λ q. cc
         | false ↦ λ q. refl
       ]) e
 
-  pub run_next : (d : ℕ) → i < n → room_after bs (name_count bs) (node_start bs i) m ≡ Some d → run bs m i (n - i) ≡ run bs d (i + 1) (n - (i + 1))
+  pub run_next : (d : ℕ) → i < n → room_after bs (node_start bs i) m ≡ Some d → run bs m i (n - i) ≡ run bs d (i + 1) (n - (i + 1))
   run_next d h e =
       run_more h
       ∙ (elim there as (λ t. cond t (Some (next_room bs (node_start bs i))) None ≡ Some d → (t && run bs (next_room bs (node_start bs i)) (i + 1) (n - (i + 1))) ≡ run bs d (i + 1) (n - (i + 1))) [
         | true ↦ λ q. let r : next_room bs (node_start bs i) ≡ d = cc in ap (λ (x : ℕ). run bs x (i + 1) (n - (i + 1))) r
-        | false ↦ λ q. let z : ◌≡◌ {A = ℕ} 0 1 = cc in absurd (omega arith)
+        | false ↦ λ q. cc
       ]) e
 
   pub run_done : n ≤ i → run bs m i (n - i) ≡ true

@@ -5,8 +5,8 @@ mod block;
 mod bytes;
 mod laws;
 mod layout;
-mod node;
-mod scan;
+mod plan;
+mod row;
 
 pub use block::BlockRecord;
 pub use laws::block_rule;

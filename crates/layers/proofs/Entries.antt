@@ -1,7 +1,7 @@
 -- The entries of all nodes of a record.
-use Rattle.std.proofs.Common.{◌≡◌, ℕ, zero, suc, ◌+◌, ◌-◌, ◌<◌, cond, List, [], ◌∷◌, map, length, get_or, ℤ, Some, None, Option, refl, ap, ◌∙◌, arith}
+use Rattle.std.proofs.Common.{◌≡◌, ℕ, zero, suc, ◌+◌, ◌-◌, ◌<◌, List, [], ◌∷◌, map, length, get_or, refl, ap, ◌∙◌, arith}
 use Rattle.records.specs.Nodes.{Node, no_node}
-use Rattle.layers.specs.Views.{viewed, is_none, entry_of, entries, raised}
+use Rattle.layers.specs.Views.{viewed, entry_of, entries, raised}
 use Rattle.layers.specs.declared.view.Shown.{Shown}
 
 pub length_entries : (i : ℕ) (ns : List Node) → length (entries i ns) ≡ length ns
@@ -14,14 +14,8 @@ getD_entries i (n ∷ ns) zero d h = ap (λ (j : ℕ). entry_of j n) (omega arit
 getD_entries i (n ∷ ns) (suc k) d h =
     getD_entries (i + 1) ns k d (omega arith) ∙ ap (λ (j : ℕ). entry_of j (get_or ns k no_node)) (omega arith)
 
-value_back : (v : Option ℤ) → cond (is_none v) None v ≡ v
-value_back None = refl
-value_back (Some z) = refl
-
-pub viewed_entry : (ns : List Node) (i : ℕ) (n : Node) → get_or ns i no_node ≡ n → viewed ns (entry_of i n) ≡ n
-viewed_entry ns i n e =
-    ap (λ (m : Node). let r : Node = record { name = m.name; depth = n.depth; value = cond (is_none n.value) None m.value } in r) e
-    ∙ ap (λ (v : Option ℤ). let r : Node = record { name = n.name; depth = n.depth; value = v } in r) (value_back n.value)
+viewed_entry : (ns : List Node) (i : ℕ) (n : Node) → get_or ns i no_node ≡ n → viewed ns (entry_of i n) ≡ n
+viewed_entry ns i n e = ap (λ (m : Node). let r : Node = record { name = m.name; depth = n.depth; value = m.value } in r) e
 
 -- seen through their entries, the nodes are as they were
 pub view_entries : (all : List Node) (i : ℕ) (ns : List Node) → ((k : ℕ) → k < length ns → get_or all (i + k) no_node ≡ get_or ns k no_node) → map (viewed all) (entries i ns) ≡ ns
@@ -41,4 +35,4 @@ places_entries all i (n ∷ ns) (p ∷ ps) e h =
     ∙ ap (λ (l : List ℕ). p ∷ l) (places_entries all (i + 1) ns ps (omega arith) (λ k l. ap (λ (j : ℕ). get_or all j 0) (omega arith) ∙ h (suc k) (omega arith)))
 
 pub raised_none : (s : Shown) → raised 0 s ≡ s
-raised_none s = let z : s.depth - 0 ≡ s.depth = omega arith in ap (λ (d : ℕ). let r : Shown = record { at = s.at; depth = d; inner = s.inner } in r) z
+raised_none s = let z : s.depth - 0 ≡ s.depth = omega arith in ap (λ (d : ℕ). let r : Shown = record { at = s.at; depth = d } in r) z

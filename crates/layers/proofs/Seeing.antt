@@ -1,39 +1,50 @@
 -- What a view shows of node n.
-use Rattle.std.proofs.Common.{◌≡◌, ℕ, ◌<◌, ◌≤◌, true, ◌&&◌, ltb, List, length, get_or, Some, None, sym, ap, ◌∙◌, arith}
-use Rattle.std.proofs.lemmas.List.{get_or-map, get_or_past}
-use Rattle.std.proofs.lemmas.Bool.{lt-ltb, le-ltb, and_left}
+use Rattle.std.proofs.Common.{◌≡◌, ℕ, ◌<◌, ◌≤◌, true, false, ◌&&◌, ltb, List, [], length, get_or, Some, None, Option, Bor, refl, inl, inr, sym, ap, ◌∙◌, arith}
+use Rattle.std.specs.Option.{is_some, IfSome, option_copied}
+use Rattle.std.proofs.lemmas.List.{get_or-map, get_or_past, length-map}
+use Rattle.std.proofs.lemmas.Bool.{cases_lt, lt-ltb, le-ltb, ltb-true, ltb-false, and_left}
 use Rattle.std.specs.Str.{bytes_eq}
-use Rattle.records.specs.Nodes.{Node, no_node, named_at}
+use Rattle.records.specs.Nodes.{Node, no_node, proper, Shape}
+use Rattle.records.specs.Shapes.{proper_at, proper_word}
+use Rattle.lexical.specs.Words.{spelled, word}
+use mathlib.Core.Bool.{false≢true}
 use Rattle.layers.specs.declared.view.Shown.{Shown}
-use Rattle.layers.specs.Views.{Seen, outlined, viewed, view_nodes, view_places}
-use Rattle.layers.specs.Viewing.{reaches, view_level, view_all, view_all_places, view_length}
+use Rattle.layers.specs.Views.{Seen, viewed, view_nodes, view_places}
 
-module _ (reach : ℕ) (ss : List Shown) (ns : List Node) (ps : List ℕ) (n : ℕ) where
-  pub seen_none : length (view_nodes reach ss ns) ≤ n → Seen reach ss ns ps n None
+nameless : word [] ≡ false
+unfolding spelled
+nameless = refl
+
+module _ (ns : List Node) (ps : List ℕ) (ss : List Shown) (n : ℕ) where
+  seen_none : length ss ≤ n → Seen ns ps ss n None
   seen_none h =
-      let l = view_level reach ss ns ps in (
-        get_or_past (view_nodes reach ss ns) n no_node h,
-        get_or_past (view_places reach ss ns ps) n 0 (omega arith),
-        λ w. and_left (ltb n (length (view_nodes reach ss ns))) _ (le-ltb n (length (view_nodes reach ss ns)) h),
+      let l : length (view_nodes ns ss) ≡ length ss = length-map ss (viewed ns) in
+      let k : length (view_places ps ss) ≡ length ss = length-map ss (λ (t : Shown). get_or ps t.at 0) in (
+        get_or_past (view_nodes ns ss) n no_node (omega arith),
+        get_or_past (view_places ps ss) n 0 (omega arith),
+        λ w. and_left (ltb n (length (view_nodes ns ss))) _ (le-ltb n (length (view_nodes ns ss)) (omega arith)),
       )
 
-  module _ (s : Shown) (l : reach ≤ length ns) (h : n < length ss) (e : s ≡ get_or ss n s) where
-    node_seen : get_or (view_nodes reach ss ns) n no_node ≡ viewed ns s
-    node_seen = ap (λ k. get_or k n no_node) (view_all reach ss ns l) ∙ get_or-map (viewed ns) ss n s no_node h ∙ ap (viewed ns) (sym e)
+  seen_some : (s : Shown) → n < length ss → s ≡ get_or ss n s → Shape (view_nodes ns ss) → Seen ns ps ss n (Some s)
+  seen_some s h e shape =
+      let l : length (view_nodes ns ss) ≡ length ss = length-map ss (viewed ns) in
+      let node : get_or (view_nodes ns ss) n no_node ≡ viewed ns s = get_or-map (viewed ns) ss n s no_node h ∙ ap (viewed ns) (sym e) in
+      let named : word (get_or ns s.at no_node).name ≡ true = proper_word (viewed ns s) (ap proper (sym node) ∙ proper_at 0 (view_nodes ns ss) n shape.1 (omega arith)) in
+      let a : ltb s.at (length ns) ≡ true = lt-ltb s.at (length ns) (within s.at named) in
+      let b : ltb n (length (view_nodes ns ss)) ≡ true = lt-ltb n (length (view_nodes ns ss)) (omega arith) in (
+        node,
+        get_or-map (λ (t : Shown). get_or ps t.at 0) ss n s 0 h ∙ ap (λ (t : Shown). get_or ps t.at 0) (sym e),
+        λ w. ap (λ t. t && bytes_eq (get_or ns s.at no_node).name w) (a ∙ sym b) ∙ ap (λ (m : Node). ltb n (length (view_nodes ns ss)) && bytes_eq m.name w) (sym node),
+      )
+    where
+      -- a node with a word for its name is there
+      within : (i : ℕ) → word (get_or ns i no_node).name ≡ true → i < length ns
+      within i h = elim (cases_lt i (length ns)) [
+        | inl l ↦ l
+        | inr l ↦ absurd (false≢true (sym nameless ∙ sym (ap (λ (m : Node). word m.name) (get_or_past ns i no_node l)) ∙ h))
+      ]
 
-    place_seen : get_or (view_places reach ss ns ps) n 0 ≡ get_or ps s.at 0
-    place_seen =
-        ap (λ k. get_or k n 0) (view_all_places reach ss ns ps l) ∙ get_or-map (λ (t : Shown). get_or ps t.at 0) ss n s 0 h ∙ ap (λ (t : Shown). get_or ps t.at 0) (sym e)
-
-    name_seen : outlined reach 0 ss ≡ true → (w : List ℕ) → named_at ns s.at w ≡ named_at (view_nodes reach ss ns) n w
-    name_seen o w =
-        let r : (get_or ss n s).at < reach = reaches reach 0 ss n s o h in
-        let q : s.at < reach = rw (sym e) at r in
-        let len = view_length reach ss ns l in
-        let a : ltb s.at (length ns) ≡ true = lt-ltb s.at (length ns) (omega arith) in
-        let b : ltb n (length (view_nodes reach ss ns)) ≡ true = lt-ltb n (length (view_nodes reach ss ns)) (omega arith) in
-        ap (λ t. t && bytes_eq (get_or ns s.at no_node).name w) (a ∙ sym b)
-        ∙ ap (λ (m : Node). ltb n (length (view_nodes reach ss ns)) && bytes_eq m.name w) (sym node_seen)
-
-    pub seen_some : outlined reach 0 ss ≡ true → Seen reach ss ns ps n (Some s)
-    seen_some o = (node_seen, place_seen, name_seen o)
+  -- as the library's `get` answers
+  pub seen : (r : Option (Bor Shown)) → is_some r ≡ ltb n (length ss) → IfSome r (λ x. x.now ≡ get_or ss n x.now) → Shape (view_nodes ns ss) → Seen ns ps ss n (option_copied r)
+  seen None t e o = seen_none (ltb-false n (length ss) (sym t))
+  seen (Some s) t e o = seen_some s.now (ltb-true n (length ss) (sym t)) e o

@@ -1,13 +1,11 @@
 -- The functions of the layers select what their definitions say.
-use Rattle.std.proofs.Common.{◌≡◌, ℕ, zero, suc, ◌+◌, ◌<◌, ◌≤◌, min, Bool, true, false, cond, ◌&&◌, ltb, List, [], ◌∷◌, ◌++◌, length, get_or, take, drop, sym, refl, ap, ◌∙◌, subst, inl, inr, add-one, arith}
+use Rattle.std.proofs.Common.{◌≡◌, ℕ, zero, suc, ◌+◌, ◌<◌, ◌≤◌, min, Bool, true, false, cond, ◌&&◌, ltb, List, [], ◌∷◌, ◌++◌, length, get_or, take, drop, Some, None, Option, sym, refl, ap, ◌∙◌, subst, inl, inr, add-one, arith}
 use mathlib.Core.Bool.{false≢true}
 use native.Mathlib.Decide.{dec_lt}
 use Rattle.std.proofs.lemmas.Bool.{ltb-true, ltb-false, lt-ltb}
 use Rattle.std.specs.Str.{bytes_eq}
-use Rattle.records.specs.Limits.{most_levels}
-use Rattle.records.specs.Nodes.{Node, no_node, Shape, depth_at, named_at}
-use Rattle.records.specs.Shapes.{proper_at, proper_low}
-use Rattle.layers.specs.Layers.{Beneath, Kept, Taken, Selected, nothing, keeps, leaves, shown, without, run, cut_part}
+use Rattle.records.specs.Nodes.{Node, no_node, depth_at, named_at}
+use Rattle.layers.specs.Layers.{Beneath, Kept, Taken, Selected, nothing, keeps, leaves, hidden_by, unless_hidden, shown, without, run, cut_part}
 
 -- nodes ms are what is left of ns from i on
 abbrev pub Suffix : List Node → ℕ → List Node → Type 0
@@ -19,6 +17,29 @@ suffix_first ns i n ms s = ap (λ (j : ℕ). get_or ns j no_node) (omega arith) 
 suffix_rest : (ns : List Node) (i : ℕ) (n : Node) (ms : List Node) → Suffix ns i (n ∷ ms) → Suffix ns (i + 1) ms
 suffix_rest ns i n ms s = (omega (arith, s.0), λ k h. ap (λ (j : ℕ). get_or ns j no_node) (omega arith) ∙ s.1 (suc k) (omega arith))
 
+-- The hidden node at depth `top` has what lies at depth d beneath it.
+abbrev pub Under : Option ℕ → ℕ → Type 0
+Under None d = ⊥
+Under (Some top) d = top < d
+
+-- what hiding does at a node: it goes on leaving out, begins, or shows the node
+module _ (w : List ℕ) (n : Node) where
+  pub data Step : Option ℕ → Option ℕ → Type 0 where
+    stays : {t : ℕ} → t < n.depth → Step (Some t) (Some t)
+    begins : {top : Option ℕ} → (Under top n.depth → ⊥) → bytes_eq n.name w ≡ true → Step top (Some n.depth)
+    ends : {top : Option ℕ} → (Under top n.depth → ⊥) → bytes_eq n.name w ≡ false → Step top None
+
+  step_out : (top : Option ℕ) → (Under top n.depth → ⊥) → Step top (cond (bytes_eq n.name w) (Some n.depth) None)
+  step_out top h = elim (bytes_eq n.name w) as (λ s. bytes_eq n.name w ≡ s → Step top (cond s (Some n.depth) None)) [ true ↦ λ e. begins h e | false ↦ λ e. ends h e ] refl
+
+  pub step_at : (top : Option ℕ) → Step top (hidden_by w top n)
+  step_at None = step_out None (λ u. u)
+  step_at (Some t) =
+      elim (ltb t n.depth) as (λ b. ltb t n.depth ≡ b → Step (Some t) (cond b (Some t) (cond (bytes_eq n.name w) (Some n.depth) None))) [
+        | true ↦ λ e. stays (ltb-true t n.depth e)
+        | false ↦ λ e. step_out (Some t) (λ u. let h = ltb-false t n.depth e in omega arith)
+      ] refl
+
 module _ (w : List ℕ) (ns : List Node) where
   -- at node i, whatever is deeper than d lies beneath a node of the name
   pub record Covered (i d : ℕ) : Type 0 where
@@ -28,12 +49,12 @@ module _ (w : List ℕ) (ns : List Node) where
     pub deeper : (k : ℕ) → at < k → k < i → depth_at ns at < depth_at ns k
     pub less : depth_at ns at < d
 
-  -- that is what the limit says
-  abbrev pub Limits : ℕ → ℕ → Type 0
-  Limits i l = (d : ℕ) → d ≤ most_levels → (Covered i d → l < d) × (l < d → Covered i d)
+  -- that is what the hidden node says
+  abbrev pub Hidden : ℕ → Option ℕ → Type 0
+  Hidden i top = (d : ℕ) → (Covered i d → Under top d) × (Under top d → Covered i d)
 
-  no_limit : Limits 0 most_levels
-  no_limit d h = ((λ c. let b = c.before in absurd (omega arith)), (λ q. absurd (omega arith)))
+  none_hidden : Hidden 0 None
+  none_hidden d = ((λ c. let b = c.before in absurd (omega arith)), (λ u. absurd u))
 
   -- a node before i, seen from i + 1
   module _ (i d : ℕ) (c : Covered (i + 1) d) where
@@ -43,37 +64,37 @@ module _ (w : List ℕ) (ns : List Node) where
     covered_under : c.at < i → Covered i (depth_at ns i)
     covered_under h = record { at = c.at; before = h; named = c.named; deeper = λ k a b. c.deeper k a (omega arith); less = c.deeper i h (omega arith) }
 
-  module _ (i l : ℕ) (low : depth_at ns i < most_levels) (inv : Limits i l) where
-    -- a node beneath what is left out
-    limit_stays : l < depth_at ns i → Limits (i + 1) l
-    limit_stays h d b = (
-      (λ c. elim (dec_lt c.at i) [
-        | yes p ↦ (inv d b).0 (covered_before i d c p)
-        | no q ↦ (let e : c.at ≡ i = omega (arith, c.before) in let f = ap (depth_at ns) e in omega (arith, c.less))
-      ]),
-      (λ q.
-          let m : ℕ = min d (depth_at ns i) in
-          let x = (inv m (omega arith)).1 (omega arith) in
-          let under : depth_at ns x.at < depth_at ns i = omega (arith, x.less) in
-          record {
-            at = x.at;
-            before = omega (arith, x.before);
-            named = x.named;
-            deeper = λ k a z. elim (dec_lt k i) [
-              | yes p ↦ x.deeper k a p
-              | no r ↦ (let e : k ≡ i = omega arith in let f = ap (depth_at ns) e in omega (arith, under))
-            ];
-            less = omega (arith, x.less);
-          }),
-    )
+  -- a node beneath the hidden one
+  hidden_stays : (i t : ℕ) → Hidden i (Some t) → t < depth_at ns i → Hidden (i + 1) (Some t)
+  hidden_stays i t inv h d = (
+    (λ c. elim (dec_lt c.at i) [
+      | yes p ↦ (inv d).0 (covered_before i d c p)
+      | no q ↦ (let e : c.at ≡ i = omega (arith, c.before) in let f = ap (depth_at ns) e in omega (arith, c.less))
+    ]),
+    (λ q.
+        let m : ℕ = min d (depth_at ns i) in
+        let x = (inv m).1 (omega arith) in
+        let under : depth_at ns x.at < depth_at ns i = omega (arith, x.less) in
+        record {
+          at = x.at;
+          before = omega (arith, x.before);
+          named = x.named;
+          deeper = λ k a z. elim (dec_lt k i) [
+            | yes p ↦ x.deeper k a p
+            | no r ↦ (let e : k ≡ i = omega arith in let f = ap (depth_at ns) e in omega (arith, under))
+          ];
+          less = omega (arith, x.less);
+        }),
+  )
 
+  module _ (i : ℕ) (top : Option ℕ) (inv : Hidden i top) where
     -- a node that is not, so no node before it covers it
-    module _ (h : depth_at ns i ≤ l) where
+    module _ (h : Under top (depth_at ns i) → ⊥) where
       uncovered : Covered i (depth_at ns i) → ⊥
-      uncovered c = let q = (inv (depth_at ns i) (omega arith)).0 c in omega arith
+      uncovered c = h ((inv (depth_at ns i)).0 c)
 
-      limit_begins : named_at ns i w ≡ true → Limits (i + 1) (depth_at ns i)
-      limit_begins e d b = (
+      hidden_begins : named_at ns i w ≡ true → Hidden (i + 1) (Some (depth_at ns i))
+      hidden_begins e d = (
         (λ c. elim (dec_lt c.at i) [
           | yes p ↦ absurd (uncovered (covered_under i d c p))
           | no q ↦ (let f : c.at ≡ i = omega (arith, c.before) in let g = ap (depth_at ns) f in omega (arith, c.less))
@@ -81,24 +102,30 @@ module _ (w : List ℕ) (ns : List Node) where
         (λ q. record { at = i; before = omega arith; named = e; deeper = λ k a z. absurd (omega arith); less = q }),
       )
 
-      limit_ends : named_at ns i w ≡ false → Limits (i + 1) most_levels
-      limit_ends e d b = (
+      hidden_ends : named_at ns i w ≡ false → Hidden (i + 1) None
+      hidden_ends e d = (
         (λ c. elim (dec_lt c.at i) [
           | yes p ↦ absurd (uncovered (covered_under i d c p))
           | no q ↦ (let f : c.at ≡ i = omega (arith, c.before) in absurd (false≢true (sym e ∙ (ap (λ j. named_at ns j w) (sym f) ∙ c.named))))
         ]),
-        (λ q. absurd (omega arith)),
+        (λ q. absurd q),
       )
 
-  kept_by : (b : Bool) (j : ℕ) → named_at ns j w ≡ b → (named_at ns j w ≡ true → ⊥) → named_at ns j w ≡ false
-  kept_by true j e f = absurd (f e)
-  kept_by false j e f = e
+      is_kept : named_at ns i w ≡ false → Kept w ns i
+      is_kept e =
+          record {
+            itself = e;
+            above = λ j b. not_named (named_at ns j w) j refl (λ t.
+                uncovered (record { at = j; before = b.later; named = t; deeper = λ k x y. b.deeper k x (omega arith); less = b.deeper i b.later (omega arith) }));
+          }
+        where
+          not_named : (b : Bool) (j : ℕ) → named_at ns j w ≡ b → (named_at ns j w ≡ true → ⊥) → named_at ns j w ≡ false
+          not_named true j e f = absurd (f e)
+          not_named false j e f = e
 
-  -- whether node i is kept, by the limit
-  module _ (i l : ℕ) (low : depth_at ns i < most_levels) (inv : Limits i l) where
-    not_kept_under : l < depth_at ns i → Kept w ns i → ⊥
-    not_kept_under h k =
-        let c = (inv (depth_at ns i) (omega arith)).1 h in
+    not_kept : Under top (depth_at ns i) → Kept w ns i → ⊥
+    not_kept h k =
+        let c = (inv (depth_at ns i)).1 h in
         let b : Beneath ns c.at i = record {
           later = c.before;
           deeper = λ m x y. elim (dec_lt m i) [
@@ -108,55 +135,41 @@ module _ (w : List ℕ) (ns : List Node) where
         } in
         false≢true (sym (k.above c.at b) ∙ c.named)
 
-    is_kept : depth_at ns i ≤ l → named_at ns i w ≡ false → Kept w ns i
-    is_kept h e =
-        record {
-          itself = e;
-          above = λ j b. kept_by (named_at ns j w) j refl (λ t.
-              let q = (inv (depth_at ns i) (omega arith)).0 (record { at = j; before = b.later; named = t; deeper = λ k x y. b.deeper k x (omega arith); less = b.deeper i b.later (omega arith) }) in
-              omega arith);
-        }
-
   named_here : (i : ℕ) (n : Node) (b : Bool) → i < length ns → get_or ns i no_node ≡ n → bytes_eq n.name w ≡ b → named_at ns i w ≡ b
   named_here i n b h e f =
       ap (λ (t : Bool). t && bytes_eq (get_or ns i no_node).name w) (lt-ltb i (length ns) h)
       ∙ (ap (λ (m : Node). bytes_eq m.name w) e ∙ f)
 
-  module _ {X : Type 0} (low : (k : ℕ) → k < length ns → depth_at ns k < most_levels) where
-    pub shown_selects : (i l : ℕ) (ms : List Node) (xs : List X) → length xs ≡ length ms → Suffix ns i ms → Limits i l → Selected (Kept w ns) i xs (shown w l ms xs)
-    shown_selects i l [] [] e s inv = nothing
-    shown_selects i l [] (x ∷ xs) e s inv = absurd (omega arith)
-    shown_selects i l (n ∷ ms) [] e s inv = absurd (omega arith)
-    shown_selects i l (n ∷ ms) (x ∷ xs) e s inv =
-        let here = suffix_first ns i n ms s in
-        let inside : i < length ns = omega (arith, s.0) in
-        let depth : depth_at ns i ≡ n.depth = ap (λ (m : Node). m.depth) here in
-        let rest = suffix_rest ns i n ms s in
-        elim (ltb l n.depth) as (λ b. ltb l n.depth ≡ b → Selected (Kept w ns) i (x ∷ xs) (cond (cond b false (cond (bytes_eq n.name w) false true)) (x ∷ shown w (cond b l (cond (bytes_eq n.name w) n.depth most_levels)) ms xs) (shown w (cond b l (cond (bytes_eq n.name w) n.depth most_levels)) ms xs))) [
-          | true ↦ λ q.
-              let h : l < depth_at ns i = omega (arith, ltb-true l n.depth q) in
-              leaves (not_kept_under i l (low i inside) inv h) (shown_selects (i + 1) l ms xs (omega arith) rest (limit_stays i l (low i inside) inv h))
-          | false ↦ λ q.
-              let h : depth_at ns i ≤ l = omega (arith, ltb-false l n.depth q) in
-              elim (bytes_eq n.name w) as (λ t. bytes_eq n.name w ≡ t → Selected (Kept w ns) i (x ∷ xs) (cond (cond t false true) (x ∷ shown w (cond t n.depth most_levels) ms xs) (shown w (cond t n.depth most_levels) ms xs))) [
-                | true ↦ λ r.
-                    let named = named_here i n true inside here r in
-                    leaves (λ k. false≢true (sym k.itself ∙ named))
-                    (shown_selects (i + 1) n.depth ms xs (omega arith) rest (subst (Limits (i + 1)) depth (limit_begins i l (low i inside) inv h named)))
-                | false ↦ λ r.
-                    let other = named_here i n false inside here r in
-                    keeps (is_kept i l (low i inside) inv h other) (shown_selects (i + 1) most_levels ms xs (omega arith) rest (limit_ends i l (low i inside) inv h other))
-              ] refl
-        ] refl
+  -- one node, where the rest is selected
+  node_selected : {X : Type 0} (i : ℕ) (n : Node) (x : X) (xs : List X) (f : Option ℕ → List X) (top after : Option ℕ) → i < length ns → get_or ns i no_node ≡ n → Hidden i top →
+      ((t : Option ℕ) → Hidden (i + 1) t → Selected (Kept w ns) (i + 1) xs (f t)) → Step w n top after →
+      Selected (Kept w ns) i (x ∷ xs) (unless_hidden after x (f after))
+  node_selected i n x xs f top after h e inv rest (stays {t = t} l) =
+      let d : n.depth ≡ depth_at ns i = sym (ap (λ (m : Node). m.depth) e) in
+      leaves (not_kept i (Some t) inv (omega arith)) (rest (Some t) (hidden_stays i t inv (omega arith)))
+  node_selected i n x xs f top after h e inv rest (begins o s) =
+      let d : n.depth ≡ depth_at ns i = sym (ap (λ (m : Node). m.depth) e) in
+      let named = named_here i n true h e s in
+      leaves (λ k. false≢true (sym k.itself ∙ named)) (rest (Some n.depth) (subst (λ (m : ℕ). Hidden (i + 1) (Some m)) (sym d) (hidden_begins i top inv (subst (λ (m : ℕ). Under top m → ⊥) d o) named)))
+  node_selected i n x xs f top after h e inv rest (ends o s) =
+      let d : n.depth ≡ depth_at ns i = sym (ap (λ (m : Node). m.depth) e) in
+      let out = subst (λ (m : ℕ). Under top m → ⊥) d o in
+      let other = named_here i n false h e s in
+      keeps (is_kept i top inv out other) (rest None (hidden_ends i top inv out other))
 
-all_low : (ns : List Node) → Shape ns → (k : ℕ) → k < length ns → depth_at ns k < most_levels
-all_low ns s k h = proper_low (get_or ns k no_node) (proper_at 0 ns k s.1 h)
+  pub shown_selects : {X : Type 0} (i : ℕ) (top : Option ℕ) (ms : List Node) (xs : List X) → length xs ≡ length ms → Suffix ns i ms → Hidden i top → Selected (Kept w ns) i xs (shown w top ms xs)
+  shown_selects i top [] [] e s inv = nothing
+  shown_selects i top [] (x ∷ xs) e s inv = absurd (omega arith)
+  shown_selects i top (n ∷ ms) [] e s inv = absurd (omega arith)
+  shown_selects i top (n ∷ ms) (x ∷ xs) e s inv =
+      node_selected i n x xs (λ t. shown w t ms xs) top (hidden_by w top n) (omega (arith, s.0)) (suffix_first ns i n ms s) inv
+      (λ t k. shown_selects (i + 1) t ms xs (omega arith) (suffix_rest ns i n ms s) k) (step_at w n top)
 
 whole : (ns : List Node) → Suffix ns 0 ns
 whole ns = (omega arith, λ k h. ap (λ (j : ℕ). get_or ns j no_node) (omega arith))
 
-pub hidden_selects : {X : Type 0} (w : List ℕ) (ns : List Node) (xs : List X) → Shape ns → length xs ≡ length ns → Selected (Kept w ns) 0 xs (without w ns xs)
-hidden_selects w ns xs s e = shown_selects w ns (all_low ns s) 0 most_levels ns xs e (whole ns) (no_limit w ns)
+pub hidden_selects : {X : Type 0} (w : List ℕ) (ns : List Node) (xs : List X) → length xs ≡ length ns → Selected (Kept w ns) 0 xs (without w ns xs)
+hidden_selects w ns xs e = shown_selects w ns 0 None ns xs e (whole ns) (none_hidden w ns)
 
 -- the cut at n
 module _ (n : ℕ) (ns : List Node) where

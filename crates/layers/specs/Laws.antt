@@ -13,7 +13,7 @@ OneSelection =
 -- the functions give what the relations select, of the nodes and of their places
 abbrev pub HidingKeeps : Type 0
 HidingKeeps =
-    (w : List ℕ) (ns : List Node) (ps : List ℕ) → Shape ns → length ps ≡ length ns →
+    (w : List ℕ) (ns : List Node) (ps : List ℕ) → length ps ≡ length ns →
     Selected (Kept w ns) 0 ns (without w ns ns) × Selected (Kept w ns) 0 ps (without w ns ps)
 
 abbrev pub CuttingTakes : Type 0
@@ -27,12 +27,12 @@ NonWordHidesNothing =
 
 -- hiding twice is hiding once
 abbrev pub HiddenOnce : Type 0
-HiddenOnce = (w : List ℕ) (ns : List Node) → Shape ns → without w (without w ns ns) (without w ns ns) ≡ without w ns ns
+HiddenOnce = (w : List ℕ) (ns : List Node) → without w (without w ns ns) (without w ns ns) ≡ without w ns ns
 
 -- the nodes that are kept and those that are hidden are together as many as there are
 abbrev pub HiddenAndKept : Type 0
 HiddenAndKept =
-    (w : List ℕ) (ns : List Node) → Shape ns → (ls : List Node) × Selected (λ i. Kept w ns i → ⊥) 0 ns ls × (length (without w ns ns) + length ls ≡ length ns)
+    (w : List ℕ) (ns : List Node) → (ls : List Node) × Selected (λ i. Kept w ns i → ⊥) 0 ns ls × (length (without w ns ns) + length ls ≡ length ns)
 
 -- a record of one tree, cut at its first node, is that record
 abbrev pub CutWhole : Type 0

@@ -1,7 +1,6 @@
 -- What the layers show of the record below them.
-use Rattle.std.specs.Prelude.{◌≡◌, ℕ, ◌+◌, ◌-◌, ◌<◌, ◌≤◌, Bool, true, false, cond, ◌⊎◌, List, [], ◌∷◌, ◌++◌, map, take, drop, nat_lt}
+use Rattle.std.specs.Prelude.{◌≡◌, ℕ, ◌+◌, ◌-◌, ◌<◌, ◌≤◌, Bool, false, cond, ◌⊎◌, List, [], ◌∷◌, ◌++◌, map, take, drop, Some, None, Option, nat_lt}
 use Rattle.std.specs.Str.{bytes_eq}
-use Rattle.records.specs.Limits.{most_levels}
 use Rattle.records.specs.Nodes.{Node, depth_at, named_at}
 
 -- Node i lies beneath node j: it comes after j, and all nodes from there up to it are deeper than j.
@@ -26,21 +25,28 @@ pub data Selected {X : Type 0} (P : ℕ → Type 0) : ℕ → List X → List X 
 
 -- The same as functions of the nodes below, and of any list xs that lies beside them (the nodes themselves, or their places).
 
--- Hiding, from left to right: `limit` is the depth of the node that is being left out, or `most_levels` where none is. Whatever is
--- deeper than it lies beneath that node.
-abbrev pub passes : List ℕ → ℕ → Node → Bool
-passes w limit n = cond (nat_lt limit n.depth) false (cond (bytes_eq n.name w) false true)
+-- Hiding, from left to right: `top` is the depth of the hidden node beneath which all is left out, or none where nodes are shown.
+-- Whatever is deeper than it lies beneath that node.
+abbrev pub lies_under : Option ℕ → ℕ → Bool
+lies_under None d = false
+lies_under (Some top) d = nat_lt top d
 
-abbrev pub limit_after : List ℕ → ℕ → Node → ℕ
-limit_after w limit n = cond (nat_lt limit n.depth) limit (cond (bytes_eq n.name w) n.depth most_levels)
+-- the depth of the hidden node that node n is or lies beneath; none where n is shown
+abbrev pub hidden_by : List ℕ → Option ℕ → Node → Option ℕ
+hidden_by w top n = cond (lies_under top n.depth) top (cond (bytes_eq n.name w) (Some n.depth) None)
 
-abbrev pub shown : {X : Type 0} → List ℕ → ℕ → List Node → List X → List X
-shown w limit [] xs = []
-shown w limit (n ∷ ns) [] = []
-shown w limit (n ∷ ns) (x ∷ xs) = cond (passes w limit n) (x ∷ shown w (limit_after w limit n) ns xs) (shown w (limit_after w limit n) ns xs)
+-- with x in front, unless it is hidden
+abbrev pub unless_hidden : {X : Type 0} → Option ℕ → X → List X → List X
+unless_hidden None x xs = x ∷ xs
+unless_hidden (Some top) x xs = xs
+
+abbrev pub shown : {X : Type 0} → List ℕ → Option ℕ → List Node → List X → List X
+shown w top [] xs = []
+shown w top (n ∷ ns) [] = []
+shown w top (n ∷ ns) (x ∷ xs) = unless_hidden (hidden_by w top n) x (shown w (hidden_by w top n) ns xs)
 
 abbrev pub without : {X : Type 0} → List ℕ → List Node → List X → List X
-without w ns xs = shown w most_levels ns xs
+without w ns xs = shown w None ns xs
 
 -- the elements beside the nodes, from the first on, that are deeper than d
 abbrev pub run : {X : Type 0} → ℕ → List Node → List X → List X

@@ -1,6 +1,5 @@
 -- Layers over any record. What they show, and the laws of it:
 pub mod Layers
 pub mod Laws
--- How a view keeps that, and that it is a record again:
+-- How a view keeps that:
 pub mod Views
-pub mod Viewing

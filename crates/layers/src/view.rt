@@ -1,112 +1,74 @@
 // A view of the record below: some of its nodes, at their depths or lower ones.
-ghost use Rattle.std.specs.Prelude.{◌≡◌, ℕ, ◌≤◌, true, List, length, slice_index_or};
-ghost use Rattle.layers.specs.Viewing.{view_level, view_shape};
-ghost use Rattle.layers.specs.Views.{Seen, entry_of, outlined, raised, view_nodes, view_places};
-ghost use Rattle.records.specs.Nodes.{no_node};
-ghost use Rattle.records.specs.Limits.{most_nodes};
+ghost use Rattle.std.specs.Prelude.{◌≡◌, slice_index_or};
+ghost use Rattle.layers.specs.Views.{Seen, entry_of, raised, view_level, view_nodes, view_places};
+ghost use Rattle.records.specs.Nodes.{Shape, no_node};
 
 use records::Record;
 
 mod cut;
 mod hide;
 
-// A node that is shown: its number below, its depth here, and whether nodes may stand beneath it.
+// A node that is shown: its number below, and its depth here.
 #[derive(Clone, Copy)]
 pub struct Shown {
     pub at: usize,
     pub depth: usize,
-    pub inner: bool,
 }
 
-// The nodes that are shown, of a record with at least `reach` nodes. The type cannot say that the record below has so many (an
-// invariant cannot cite what a bound says), so each question tests it; the calls that make a view set `reach` to its count.
+// The nodes of the record below that are shown.
 #[derive(Drop)]
 pub struct View<'r, R: Record> {
     below: &'r R,
-    reach: usize,
     shown: Vec<Shown>,
-    ghost few: { length shown.items ≤ most_nodes },
-    ghost ok: { outlined reach 0 shown.items ≡ true },
+    ghost in_shape: { Shape (view_nodes (R.nodes below.now) shown.items) },
 }
 
 // Node n, shown `base` higher up.
 fn raise<R: Record>(below: &R, n: usize, base: usize) -> Shown
     ensures { result ≡ raised base (entry_of n (slice_index_or (R.nodes below.now) n no_node)) }
 {
-    let depth = below.depth(n).saturating_sub(base);
-    let inner = below.value(n).is_none();
     Shown {
         at: n,
-        depth,
-        inner,
+        depth: below.depth(n).saturating_sub(base),
     }
 }
 
 impl<'r, R: Record> View<'r, R> {
-    // How many nodes are shown.
-    fn len(&self) -> usize
-        ensures { result ≡ length (view_nodes self.now.reach self.now.shown.items (R.nodes self.now.below.now)) }
-    {
-        if self.reach <= self.below.count() {
-            self.shown.len()
-        } else {
-            0
-        }
-    }
-
     // Node n, if there is one.
     fn seen(&self, n: usize) -> Option<Shown>
-        ensures { Seen self.now.reach self.now.shown.items (R.nodes self.now.below.now) (R.places self.now.below.now) n result }
+        ensures { Seen (R.nodes self.now.below.now) (R.places self.now.below.now) self.now.shown.items n result }
     {
-        if self.reach <= self.below.count() && n < self.shown.len() {
-            Some(self.shown[n])
-        } else {
-            None
-        }
+        self.shown.get(n).copied()
     }
 }
 
 impl<'r, R: Record> Record for View<'r, R> {
-    ghost nodes = { λ v. view_nodes v.reach v.shown.items (R.nodes v.below.now) };
+    ghost nodes = { λ v. view_nodes (R.nodes v.below.now) v.shown.items };
 
-    ghost places = { λ v. view_places v.reach v.shown.items (R.nodes v.below.now) (R.places v.below.now) };
+    ghost places = { λ v. view_places (R.places v.below.now) v.shown.items };
 
-    ghost shape = { λ v. view_shape v.reach v.shown.items (R.nodes v.below.now) (R.shape v.below.now) v.few v.ok };
+    ghost shape = { λ v. v.in_shape };
 
-    ghost placed = { λ v. view_level v.reach v.shown.items (R.nodes v.below.now) (R.places v.below.now) };
+    ghost placed = { λ v. view_level (R.nodes v.below.now) v.shown.items (R.places v.below.now) };
 
     fn count(&self) -> usize {
-        self.len()
+        self.shown.len()
     }
 
     fn depth(&self, n: usize) -> usize {
-        match self.seen(n) {
-            Some(node) => node.depth,
-            None => 0,
-        }
+        self.seen(n).map_or(0, |node| node.depth)
     }
 
     fn value(&self, n: usize) -> Option<i32> {
-        let Some(node) = self.seen(n) else {
-            return None;
-        };
-        if node.inner {
-            return None;
-        }
-        self.below.value(node.at)
+        self.below.value(self.seen(n)?.at)
     }
 
     fn place(&self, n: usize) -> usize {
-        match self.seen(n) {
-            Some(node) => self.below.place(node.at),
-            None => 0,
-        }
+        self.seen(n).map_or(0, |node| self.below.place(node.at))
     }
 
     fn is_named(&self, n: usize, name: &[u8]) -> bool {
-        match self.seen(n) {
-            Some(node) => self.below.is_named(node.at, name),
-            None => false,
-        }
+        self.seen(n)
+            .is_some_and(|node| self.below.is_named(node.at, name))
     }
 }

@@ -8,7 +8,7 @@ use Rattle.std.proofs.lemmas.Bool.{and_parts, lt-ltb}
 use Rattle.lexical.specs.Words.{all}
 use Rattle.records.specs.Nodes.{Node, no_node, depth_at, value_at, named_at}
 use Rattle.records.specs.Sums.{total_of}
-use Rattle.layers.specs.Layers.{passes, limit_after, shown, without, run, lowered, cut_part, cut_nodes}
+use Rattle.layers.specs.Layers.{hidden_by, unless_hidden, shown, without, run, lowered, cut_part, cut_nodes}
 use Rattle.blocks.specs.Places.{block_nodes, block_places, node_at, node_count, node_start}
 use Rattle.record_text.specs.declared.entry.Entry.{Entry}
 use Rattle.record_text.specs.Opening.{Reads}
@@ -52,16 +52,18 @@ module _ (f : ℕ → List ℕ) where
   summed_own t ns ps h = ap (λ l. (l ++ count_line (length ns)) ++ cond t (total_line (total_of ns)) []) (lines_own ns ps h 0 (length ns) (omega arith))
 
   -- layers keep it
-  named_shown : (w : List ℕ) (limit : ℕ) (ms ns : List Node) (ps : List ℕ) → Named f ns ps → Named f (shown w limit ms ns) (shown w limit ms ps)
-  named_shown w limit [] ns ps h = tt
-  named_shown w limit (m ∷ ms) [] [] h = tt
-  named_shown w limit (m ∷ ms) [] (p ∷ ps) h = absurd h
-  named_shown w limit (m ∷ ms) (n ∷ ns) [] h = absurd h
-  named_shown w limit (m ∷ ms) (n ∷ ns) (p ∷ ps) h =
-      let rest = named_shown w (limit_after w limit m) ms ns ps h.1 in
-      let A = shown w (limit_after w limit m) ms ns in
-      let B = shown w (limit_after w limit m) ms ps in
-      elim (passes w limit m) as (λ b. Named f (cond b (n ∷ A) A) (cond b (p ∷ B) B)) [ true ↦ (h.0, rest) | false ↦ rest ]
+  named_unless : (top : Maybe ℕ) (n : Node) (p : ℕ) (ns : List Node) (ps : List ℕ) → f p ≡ n.name → Named f ns ps → Named f (unless_hidden top n ns) (unless_hidden top p ps)
+  named_unless None n p ns ps e h = (e, h)
+  named_unless (Some d) n p ns ps e h = h
+
+  named_shown : (w : List ℕ) (top : Maybe ℕ) (ms ns : List Node) (ps : List ℕ) → Named f ns ps → Named f (shown w top ms ns) (shown w top ms ps)
+  named_shown w top [] ns ps h = tt
+  named_shown w top (m ∷ ms) [] [] h = tt
+  named_shown w top (m ∷ ms) [] (p ∷ ps) h = absurd h
+  named_shown w top (m ∷ ms) (n ∷ ns) [] h = absurd h
+  named_shown w top (m ∷ ms) (n ∷ ns) (p ∷ ps) h =
+      let after = hidden_by w top m in
+      named_unless after n p (shown w after ms ns) (shown w after ms ps) h.0 (named_shown w after ms ns ps h.1)
 
   named_run : (d : ℕ) (ms ns : List Node) (ps : List ℕ) → Named f ns ps → Named f (run d ms ns) (run d ms ps)
   named_run d [] ns ps h = tt

@@ -41,7 +41,7 @@ impl<'t> Names for TextNames<'t> {
 }
 
 impl<'b> Names for BlockRecord<'b> {
-    ghost stands = { λ x p. (slice_index_or (block_nodes x.block.now) p no_node).name };
+    ghost stands = { λ x p. (slice_index_or (block_nodes x.plan.block.now) p no_node).name };
 
     fn name(&self, place: usize) -> &[u8] {
         self.name_of(place)

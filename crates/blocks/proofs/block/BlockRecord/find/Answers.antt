@@ -1,19 +1,13 @@
-use Rattle.std.proofs.Common.{◌≡◌, ℕ, ◌+◌, ◌*◌, subst, arith}
-use Rattle.blocks.specs.Layout.{node_bytes}
+use Rattle.std.proofs.Common.{ℕ, cond, ltb, MatchOption, None, Option, sym, subst, ap, ◌∙◌}
 use Rattle.blocks.specs.Places.{node_start}
-use Rattle.blocks.specs.Reading.{Found}
-use Rattle.blocks.proofs.Findings.{found, missing}
+use Rattle.blocks.specs.Reading.{Found, Missing, row_at}
+use Rattle.blocks.specs.declared.row.Row.{Row}
+use Rattle.blocks.proofs.Findings.{finding}
 use Rattle.blocks.proofs.block.BlockRecord.find.Goals as goal
-
-pub returns-then-n-self : goal.returns-then-n-self
-returns-then-n-self c = let counts = c.args.self.now.counts in missing c.args.self.now.block.now c.args.n (omega (arith, c.if-n-self.true))
 
 pub returns : goal.returns
 returns c =
     let x = c.args.self.now in
-    let bs = x.block.now in
+    let bs = x.plan.block.now in
     let n = c.args.n in
-    let counts = x.counts in
-    let begins = x.begins in
-    let place : node_start bs n ≡ x.plan.first + node_bytes * n = omega arith in
-    subst (λ (at : ℕ). Found bs n at) place (found bs n x.good (omega (arith, c.if-n-self.false)))
+    subst (λ (r : Option Row). MatchOption r (Missing bs n) (λ row. Found bs n row)) (sym (c.row.ensures ∙ ap (λ (k : ℕ). cond (ltb n k) (row_at bs (node_start bs n)) None) x.plan.counts)) (finding bs n x.good)

@@ -7,4 +7,4 @@ use Rattle.layers.proofs.view.hide.kept.Given as goal
 abbrev pub invariant-loop-n : goal.invariant-loop-n
 invariant-loop-n g l =
     let ns = g.R.Record.nodes l.below in
-    vec_items l.shown ++ to_come l.name ns l.limit l.n ≡ without l.name ns (entries 0 ns)
+    vec_items l.shown ++ to_come l.name ns l.top l.n ≡ without l.name ns (entries 0 ns)

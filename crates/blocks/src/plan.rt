@@ -1,0 +1,116 @@
+// Where things stand in a block.
+ghost use Rattle.std.specs.Prelude.{◌≡◌, ℕ, ◌+◌, ◌*◌, ◌<◌, ◌≤◌, true, false, None, MatchOption, if◌then◌else◌, length, nat_lt, slice_index};
+ghost use Rattle.records.specs.Limits.{most_nodes};
+ghost use Rattle.blocks.specs.Layout.{most_names, node_bytes};
+ghost use Rattle.blocks.specs.Places.{all_words, good_block, name_count, name_of, name_start, node_count, node_start};
+ghost use Rattle.blocks.specs.Reading.{Named, room_after, row_at};
+
+use super::bytes::{byte, name_at, number16};
+use super::layout::{MOST_NAMES, NODE_BYTES};
+use super::row::Row;
+use lexical::is_word;
+use records::MOST_NODES;
+
+// A block whose names are words, and which has the length that its counts say: where each name starts, where the first node does, and
+// how many nodes there are. The table is what lets every question be answered without a walk. It has room for the most names, since
+// questions need no heap: a rule of the project.
+#[derive(Drop)]
+pub struct Plan<'b> {
+    pub block: &'b [u8],
+    pub names: u16,
+    pub starts: [u16; MOST_NAMES],
+    pub first: usize,
+    pub count: usize,
+    ghost named: { names ≡ name_count block.now },
+    ghost few_names: { names ≤ most_names },
+    ghost words: { all_words block.now (name_count block.now) ≡ true },
+    ghost table: { (k : ℕ) → k < name_count block.now → slice_index starts k ≡ name_start block.now k },
+    ghost begins: { first ≡ node_start block.now 0 },
+    ghost counts: { count ≡ node_count block.now },
+    ghost few: { count ≤ most_nodes },
+    ghost whole: { length block.now ≡ first + node_bytes * count },
+}
+
+// Writes down where each name starts, and answers where the last one ends; none where a name is no word.
+fn read_names(block: &[u8], starts: &mut [u16]) -> Option<u16>
+    requires { length starts.old ≤ most_names }
+    ensures { MatchOption result (all_words block.now (length starts.old) ≡ false) (λ end. Named block.now starts.new end) }
+{
+    // The names begin behind their count, which takes two bytes.
+    let mut at: u16 = 2;
+    for start in starts.iter_mut() {
+        if !is_word(name_at(block, at)) {
+            return None;
+        }
+        *start = at;
+        at += 1 + u16::from(byte(block, usize::from(at)));
+    }
+    Some(at)
+}
+
+impl<'b> Plan<'b> {
+    // The plan of a block; none where the names or the length are not good.
+    pub(crate) fn of(block: &'b [u8]) -> Option<Plan<'b>>
+        ensures { MatchOption result (good_block block.now ≡ false) (λ p. p.block.now ≡ block.now) }
+    {
+        let names = number16(block, 0);
+        if usize::from(names) > MOST_NAMES {
+            return None;
+        }
+        let mut starts = [0; MOST_NAMES];
+        let second = read_names(block, &mut starts[..usize::from(names)])?;
+        let first = usize::from(second) + 2;
+        let count = usize::from(number16(block, second));
+        if count > MOST_NODES || block.len() != first + NODE_BYTES * count {
+            return None;
+        }
+        Some(Plan {
+            block,
+            names,
+            starts,
+            first,
+            count,
+        })
+    }
+
+    // Node i; none where there is none, or its value does not fit.
+    pub(crate) fn row(&self, i: usize) -> Option<Row>
+        ensures { result ≡ (if nat_lt i self.now.count then row_at self.now.block.now (node_start self.now.block.now i) else None) }
+    {
+        if i >= self.count {
+            return None;
+        }
+        Row::read(&self.block[self.first + NODE_BYTES * i..])
+    }
+
+    // The greatest depth that may follow node i; none where it does not fit, or lies deeper than `room`.
+    fn room_after(&self, i: usize, room: u8) -> Option<u8>
+        requires { i < self.now.count }
+        ensures { result ≡ room_after self.now.block.now (node_start self.now.block.now i) room }
+    {
+        self.row(i)?.room_after(self.names, room)
+    }
+
+    // Whether the nodes fit, in the shape of records.
+    pub(crate) fn is_good(&self) -> bool
+        ensures { result ≡ good_block self.now.block.now }
+    {
+        // The nodes are walked by number, since that is how each question reads one.
+        let mut room = 0;
+        for i in 0..self.count {
+            let Some(next) = self.room_after(i, room) else {
+                return false;
+            };
+            room = next;
+        }
+        true
+    }
+
+    // Name k.
+    pub(crate) fn name(&self, k: u8) -> &'b [u8]
+        requires { k < name_count self.now.block.now }
+        ensures { result.now ≡ name_of self.now.block.now k }
+    {
+        name_at(self.block, self.starts[usize::from(k)])
+    }
+}
