@@ -1,23 +1,22 @@
 -- The end of the text.
-use mathlib.Core.Bool.{false≢true}
-use Rattle.std.proofs.Common.{◌≡◌, ℕ, ◌+◌, ◌<◌, ◌≤◌, List, [], ◌∷◌, length, drop, sym, refl, ap, ◌∙◌, subst, arith}
+use Rattle.std.specs.Prelude.{Ok, Err, Option as Maybe}
+use Rattle.std.proofs.Common.{◌≡◌, ℕ, false, ◌+◌, ◌<◌, ◌≤◌, List, [], ◌∷◌, length, drop, refl, ap, ◌∙◌, subst, arith}
 use mathlib.Core.Option.{Option, some, none}
 use Rattle.std.proofs.lemmas.List.{drop_all, nil_from_length}
 use Rattle.record_text.specs.declared.cutter.Cutter.{Cutter}
 use Rattle.record_text.specs.declared.cutter.State.{State}
 use Rattle.record_text.specs.declared.cutter.State.TheVariants as state
 use Rattle.record_text.specs.declared.nest.OpenTag.{OpenTag}
-use Rattle.record_text.specs.declared.turn.Turn.{Turn}
-use Rattle.record_text.specs.declared.turn.Turn.TheVariants as turn
+use Rattle.refusals.specs.declared.Refusal.{Refusal}
 use Rattle.record_text.specs.Grammar.{num}
 use Rattle.record_text.specs.Reading.{accepted, misfit}
 use Rattle.record_text.specs.Machine.{Open, Shape, move, lex}
-use Rattle.record_text.specs.Pass.{at_end, check, done_after, done}
+use Rattle.record_text.specs.Pass.{Done, over, decide, at_end, check, done_after, done}
 use Rattle.record_text.specs.Cutter.{part, phase_at, left, from, from_at, GoodAt}
 use Rattle.record_text.specs.Nest.{ups}
-use Rattle.record_text.specs.Turns.{Went}
+use Rattle.record_text.specs.Turns.{outcome, Went}
 use Rattle.record_text.proofs.Nests.{ups_length}
-use Rattle.record_text.proofs.Onwards.{check_on, misfit_at}
+use Rattle.record_text.proofs.Onwards.{ruled_on, ruled_off}
 use Rattle.record_text.proofs.TagForms.{part_length}
 
 -- whether an element is open
@@ -45,21 +44,19 @@ module _ (t : List ℕ) (c : Cutter) (z : c.at ≡ length t) (s : Shape) where
 
   -- inside a number
   module _ (start : ℕ) (e : c.state ≡ state.Number start) (s₁ : Shape) where
-    pub ended_misfit : (q : ℕ) → Went start s (num (part t start c.at)) s₁ (turn.Misfit q) → check (from c) s (left t c) ≡ misfit q
-    ended_misfit q w = ended_in (state.Number start) e ∙ (misfit_at start s (num (part t start c.at)) [] w.1 ∙ ap misfit (sym w.0))
+    pub ended_refused : (e' : Refusal) → Went start s (num (part t start c.at)) s₁ (Err e') → outcome (check (from c) s (left t c)) ≡ Err e'
+    ended_refused e' w =
+        ap outcome (ended_in (state.Number start) e)
+        ∙ ruled_off start (λ s'. check (start + length (part t start c.at)) s' []) (over s (num (part t start c.at))) (move start s (num (part t start c.at))) e' w
 
     ended_on : start < c.at → move start s (num (part t start c.at)) ≡ some s₁ → check (from c) s (left t c) ≡ at_end (length t) s₁.nodes s₁.up
     ended_on h m =
         let n = part_length t start c.at (omega arith) (omega arith) in
         let y : start + length (part t start c.at) ≡ length t = omega arith in
-        ended_in (state.Number start) e ∙ (check_on start s (num (part t start c.at)) [] s₁ refl m ∙ ap (λ p. at_end p s₁.nodes s₁.up) y)
+        ended_in (state.Number start) e ∙ (ap (λ o. decide start false o (λ s'. at_end (start + length (part t start c.at)) s'.nodes s'.up)) m ∙ ap (λ p. at_end p s₁.nodes s₁.up) y)
 
-    pub ended_number : GoodAt c.at c.state → (r : Turn) → ((q : ℕ) → r ≡ turn.Misfit q → ⊥) → Went start s (num (part t start c.at)) s₁ r →
-        check (from c) s (left t c) ≡ at_end (length t) s₁.nodes s₁.up
-    ended_number g turn.On f w = ended_on (subst (GoodAt c.at) e g) w.1
-    ended_number g (turn.Done n x) f w = ended_on (subst (GoodAt c.at) e g) w.1
-    ended_number g (turn.Misfit q) f w = absurd (f q refl)
-    ended_number g (turn.Limit q) f w = absurd (false≢true w.1)
+    pub ended_number : GoodAt c.at c.state → (d : Maybe Done) → Went start s (num (part t start c.at)) s₁ (Ok d) → check (from c) s (left t c) ≡ at_end (length t) s₁.nodes s₁.up
+    ended_number g d w = ended_on (subst (GoodAt c.at) e g) (ruled_on start (λ s'. accepted 0) false (move start s (num (part t start c.at))) s₁ w.0).1
 
 -- nothing is completed at the end
 done_end : (t : List ℕ) (at : ℕ) (s : Shape) (st : State) → done (from_at at st) s (lex (phase_at t at st) []) ≡ []

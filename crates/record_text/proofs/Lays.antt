@@ -14,7 +14,7 @@ use Rattle.record_text.specs.Reading.{Outcome, accepted, misfit, limit, Answer, 
 use Rattle.record_text.specs.Opening.{Reads}
 use Rattle.record_text.specs.Pass.{accepts, completed, read}
 use Rattle.record_text.specs.Agree.{Agrees}
-use Rattle.record_text.specs.Passing.{outcome}
+use Rattle.record_text.specs.Turns.{outcome}
 use Rattle.record_text.specs.Texts.{text_node, text_nodes}
 use Rattle.record_text.specs.Laying.{Begins, text_of, entries_of, RecordsRead, Differs, Unlaid, misfits, limits, Laid, refusal_of, Settled, Agreed}
 use Rattle.record_text.proofs.Read.{read_answers}

@@ -1,4 +1,6 @@
 -- The open tags, last in, first out, and the moves of the reader of items.
+use Rattle.std.specs.Prelude.{Ok}
+use Rattle.record_text.specs.Turns.{ruling, Admitted}
 use Rattle.std.proofs.Common.{◌≡◌, ℕ, ◌<◌, Bool, true, false, cond, ltb, leb, List, [], ◌∷◌, ◌++◌, length, ℤ, sym, refl, ap, ◌∙◌, arith, length-append}
 use mathlib.Core.Option.{Option, some, none}
 use Rattle.std.proofs.lemmas.List.{nil_from_length}
@@ -25,11 +27,18 @@ ups_length t (o ∷ os) = length-append (ups t os) (open_of t o ∷ []) ∙ (let
 pub full_ups : (t : List ℕ) (n : ℕ) (os : List OpenTag) (b : Bool) → b ≡ full n (length os) → full n (length (ups t os)) ≡ b
 full_ups t n os b e = ap (full n) (ups_length t os) ∙ sym e
 
--- there is room for one tag more
-pub has_room : (n k r : ℕ) (b : Bool) → false ≡ full n k → r ≡ most_levels → b ≡ ltb k r → b ≡ true
-has_room n k r b e f g =
-    let l : k < most_levels = leb-false most_levels k (none_over (leb most_nodes n) (leb most_levels k) (sym e)).1 in
-    g ∙ lt-ltb k r (omega arith)
+pub below_most : (n k : ℕ) → full n k ≡ false → (n < most_nodes) × (k < most_levels)
+below_most n k e =
+    let b = none_over (leb most_nodes n) (leb most_levels k) e in
+    (leb-false most_nodes n b.0, leb-false most_levels k b.1)
+
+-- an element that is admitted: there is room for one tag more, and the reader goes on
+module _ (p : ℕ) (t : List ℕ) (n : ℕ) (os : List OpenTag) (h : code.the_data) (a : Admitted p (shape n (ups t os) (held_of h)) (Ok tt)) where
+  pub has_room : (r : ℕ) (b : Bool) → r ≡ most_levels → b ≡ ltb (length os) r → b ≡ true
+  has_room r b f g = let l = (below_most n (length (ups t os)) a.0).1 in let m = ups_length t os in g ∙ lt-ltb (length os) r (omega arith)
+
+  pub admitted : (s s' : Shape) → s ≡ s' → ruling p (full n (length (ups t os))) (free (held_of h) (some s)) ≡ Ok s'
+  admitted s s' e = ap (λ b. ruling p b (free (held_of h) (some s))) a.0 ∙ (ap (ruling p false) (a.1 (some s)) ∙ ap Ok e)
 
 -- a closing tag where no element is open
 pub close_empty : (t w : List ℕ) (n : ℕ) (os : List OpenTag) → false ≡ ltb 0 (length os) → close w n (ups t os) ≡ none

@@ -7,7 +7,7 @@ use Rattle.record_text.specs.declared.entry.Entry.{Entry}
 use Rattle.record_text.specs.Reading.{Outcome, accepted, misfit, limit, Answer, Accepted}
 use Rattle.record_text.specs.Pass.{start, read, done, written, entries}
 use Rattle.record_text.specs.Opening.{Refuses, misfits, limits, short, Opened}
-use Rattle.record_text.specs.Passing.{outcome}
+use Rattle.record_text.specs.Turns.{outcome}
 use Rattle.record_text.proofs.Read.{read_answers}
 use Rattle.record_text.proofs.Only.{items_are}
 use Rattle.record_text.proofs.Fill.{content_fill}

@@ -1,10 +1,10 @@
 -- The cutter by the items that it gives.
-use Rattle.std.specs.Prelude.{◌≡◌, ℕ, ◌+◌, ◌-◌, ◌*◌, ◌<◌, ◌≤◌, List, ◌∷◌, length, drop, slice_index, slice_range}
+use Rattle.std.specs.Prelude.{◌≡◌, ℕ, ◌+◌, ◌-◌, ◌*◌, ◌<◌, ◌≤◌, List, ◌∷◌, length, drop, slice_index, slice_range, Some, None, Option}
 use Rattle.record_text.specs.declared.cutter.Cutter.{Cutter}
 use Rattle.record_text.specs.declared.cutter.State.{State}
-use Rattle.record_text.specs.declared.cutter.Ended.{Ended}
+use Rattle.record_text.specs.declared.cutter.Item.{Item as Told}
 use Rattle.record_text.specs.declared.cutter.State.TheVariants as state
-use Rattle.record_text.specs.declared.cutter.Ended.TheVariants as ended
+use Rattle.record_text.specs.declared.cutter.Item.TheVariants as told
 use Rattle.record_text.specs.Grammar.{Item, gap, tag, num, stray}
 use Rattle.record_text.specs.Machine.{Phase, idle, in_tag, in_num, lex}
 
@@ -49,10 +49,10 @@ left t c = lex (phase_at t c.at c.state) (drop c.at t)
 abbrev pub steps_left : List ℕ → Cutter → ℕ
 steps_left t c = 2 * (length t - c.at) + held_up c.state
 
--- a step at byte `at`, of an item that began at p: what ended, before the items that are left
-abbrev pub Cuts : List ℕ → ℕ → ℕ → Ended → List Item → List Item → Type 0
-Cuts t at p ended.Nothing is js = is ≡ js
-Cuts t at p ended.Blank is js = is ≡ gap (slice_index t at) ∷ js
-Cuts t at p ended.Stray is js = (p ≡ at) × (is ≡ stray (slice_index t at) ∷ js)
-Cuts t at p (ended.Tag start) is js = (p ≡ start) × (start < at) × (is ≡ tag (part t (start + 1) at) ∷ js)
-Cuts t at p (ended.Number start) is js = (p ≡ start) × (start < at) × (is ≡ num (part t start at) ∷ js)
+-- a step at byte `at`, of an item that began at p: the item that ended, before the items that are left
+abbrev pub Cuts : List ℕ → ℕ → ℕ → Option Told → List Item → List Item → Type 0
+Cuts t at p None is js = is ≡ js
+Cuts t at p (Some told.Blank) is js = is ≡ gap (slice_index t at) ∷ js
+Cuts t at p (Some told.Stray) is js = (p ≡ at) × (is ≡ stray (slice_index t at) ∷ js)
+Cuts t at p (Some (told.Tag start)) is js = (p ≡ start) × (start < at) × (is ≡ tag (part t (start + 1) at) ∷ js)
+Cuts t at p (Some (told.Number start)) is js = (p ≡ start) × (start < at) × (is ≡ num (part t start at) ∷ js)

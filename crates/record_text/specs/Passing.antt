@@ -1,17 +1,11 @@
 -- What the code of a pass answers.
 use Rattle.std.specs.Prelude.{◌≡◌, ℕ, List, Ok, Err, Result}
 use Rattle.refusals.specs.declared.Refusal.{Refusal}
-use Rattle.refusals.specs.declared.Refusal.TheVariants as refusal
-use Rattle.record_text.specs.Reading.{Outcome, accepted, misfit, limit}
+use Rattle.record_text.specs.Reading.{accepted}
 use Rattle.record_text.specs.declared.entry.Entry.{Entry}
 use Rattle.record_text.specs.declared.tally.Tally.{Tally}
 use Rattle.record_text.specs.Opening.{Opened}
 use Rattle.record_text.specs.Pass.{entries, read}
-
-abbrev pub outcome : Outcome → Result ℕ Refusal
-outcome (accepted n) = Ok n
-outcome (misfit p) = Err (refusal.Misfit p)
-outcome (limit p) = Err (refusal.Limit p)
 
 -- the number of nodes alone
 abbrev pub tallied : Result Tally Refusal → Result ℕ Refusal

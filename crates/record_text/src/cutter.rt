@@ -12,10 +12,9 @@ pub enum State {
     Number(usize),
 }
 
-// The item that ended with a step, and where it began unless it is the byte itself.
+// An item, and where it began unless it is a byte alone.
 #[derive(Clone, Copy)]
-pub enum Ended {
-    Nothing,
+pub enum Item {
     Blank,
     Stray,
     Tag(usize),
@@ -38,9 +37,11 @@ impl Cutter {
         }
     }
 
-    // One step. A number ends before the byte that is none of its own, so that byte is left to the next step.
-    pub(crate) fn step(&mut self, text: &[u8]) -> Ended
-        requires { (self.old.at < length text.now) × (Good text.now self.old) }
+    // One step, and the item that ended with it. A number ends before the byte that is none of its own, so that byte is left to the
+    // next step.
+    pub(crate) fn step(&mut self, text: &[u8]) -> Option<Item>
+        requires more { self.old.at < length text.now }
+        requires good { Good text.now self.old }
         ensures good { Good text.now self.new }
         ensures falls { steps_left text.now self.new < steps_left text.now self.old }
         ensures cuts { Cuts text.now self.old.at (from self.old) result (left text.now self.old) (left text.now self.new) }
@@ -48,26 +49,26 @@ impl Cutter {
         let at = self.at;
         self.at = at + 1;
         match (self.state, kind_of(text[at])) {
-            (State::Between, Kind::Blank) => Ended::Blank,
+            (State::Between, Kind::Blank) => Some(Item::Blank),
             (State::Between, Kind::Less) => {
                 self.state = State::Tag(at);
-                Ended::Nothing
+                None
             }
             (State::Between, Kind::Digit | Kind::Hyphen | Kind::Point) => {
                 self.state = State::Number(at);
-                Ended::Nothing
+                None
             }
-            (State::Between, _) => Ended::Stray,
+            (State::Between, _) => Some(Item::Stray),
             (State::Tag(start), Kind::Greater) => {
                 self.state = State::Between;
-                Ended::Tag(start)
+                Some(Item::Tag(start))
             }
-            (State::Tag(_), _) => Ended::Nothing,
-            (State::Number(_), Kind::Digit | Kind::Hyphen | Kind::Point) => Ended::Nothing,
+            (State::Tag(_), _) => None,
+            (State::Number(_), Kind::Digit | Kind::Hyphen | Kind::Point) => None,
             (State::Number(start), _) => {
                 self.at = at;
                 self.state = State::Between;
-                Ended::Number(start)
+                Some(Item::Number(start))
             }
         }
     }

@@ -11,7 +11,6 @@ mod reader;
 mod tags;
 mod tally;
 mod text;
-mod turn;
 
 pub use entry::Entry;
 pub use laws::{

@@ -1,6 +1,7 @@
 // The open elements, and what each item does to them.
 mod moves;
 
+use crate::entry::Entry;
 use lent::Stack;
 
 // An opening tag whose closing tag is to come: where it stands, how long its name is, and which node it begins.
@@ -25,3 +26,6 @@ pub struct Nest<'s> {
     pub held: Held,
     pub tags: Stack<'s, OpenTag>,
 }
+
+// A node that is complete: its number and its entry.
+pub type Done = (usize, Entry);

@@ -5,21 +5,22 @@ ghost use Rattle.record_text.specs.Cutter.{Good, from, left, steps_left};
 ghost use Rattle.record_text.specs.Nest.{Ready, shape_of};
 ghost use Rattle.record_text.specs.Opening.{Opened};
 ghost use Rattle.record_text.specs.Pass.{at_end, check, completed, entries, read};
-ghost use Rattle.record_text.specs.Passing.{Faultless, Verdict, outcome, tallied};
-ghost use Rattle.record_text.specs.Turns.{Onward};
+ghost use Rattle.record_text.specs.Passing.{Faultless, Verdict, tallied};
+ghost use Rattle.record_text.specs.Turns.{Onward, outcome};
 
 use crate::compare::{put, still};
-use crate::cutter::{Cutter, Ended, State};
+use crate::cutter::{Cutter, Item, State};
 use crate::entry::Entry;
-use crate::nest::{Nest, OpenTag};
+use crate::nest::{Done, Nest, OpenTag};
 use crate::tally::Tally;
-use crate::turn::Turn;
 use records::MOST_LEVELS;
 use refusals::Refusal;
 
 // One step: cuts at the next byte, and passes the item that ended there. It has one caller, so that it is compiled into the loop.
-fn advance(text: &[u8], cutter: &mut Cutter, nest: &mut Nest<'_>) -> Turn
-    requires { (cutter.old.at < length text.now) × ((Good text.now cutter.old) × (Ready nest.old)) }
+fn advance(text: &[u8], cutter: &mut Cutter, nest: &mut Nest<'_>) -> Result<Option<Done>, Refusal>
+    requires more { cutter.old.at < length text.now }
+    requires good { Good text.now cutter.old }
+    requires ready { Ready nest.old }
     ensures good { Good text.now cutter.new }
     ensures falls { steps_left text.now cutter.new < steps_left text.now cutter.old }
     ensures ready { Ready nest.new }
@@ -27,10 +28,10 @@ fn advance(text: &[u8], cutter: &mut Cutter, nest: &mut Nest<'_>) -> Turn
 {
     let at = cutter.at;
     match cutter.step(text) {
-        Ended::Nothing | Ended::Blank => Turn::On,
-        Ended::Stray => Turn::Misfit(at),
-        Ended::Number(start) => nest.number(&text[start..at], start),
-        Ended::Tag(start) => nest.tag(text, start, at),
+        None | Some(Item::Blank) => Ok(None),
+        Some(Item::Stray) => Err(Refusal::Misfit(at)),
+        Some(Item::Number(start)) => nest.number(&text[start..at], start),
+        Some(Item::Tag(start)) => nest.tag(text, start, at),
     }
 }
 
@@ -46,16 +47,16 @@ fn end(text: &[u8], nest: &Nest<'_>) -> Result<usize, Refusal>
 
 // The end of the text.
 fn finish(text: &[u8], cutter: &Cutter, nest: &mut Nest<'_>) -> Result<usize, Refusal>
-    requires { (cutter.now.at ≡ length text.now) × ((Good text.now cutter.now) × (Ready nest.old)) }
+    requires ended { cutter.now.at ≡ length text.now }
+    requires good { Good text.now cutter.now }
+    requires ready { Ready nest.old }
     ensures { result ≡ outcome (check (from cutter.now) (shape_of text.now nest.old) (left text.now cutter.now)) }
 {
     match cutter.state {
         State::Between => end(text, nest),
         State::Tag(start) => Err(Refusal::Misfit(start)),
         State::Number(start) => {
-            if let Turn::Misfit(place) = nest.number(&text[start..cutter.at], start) {
-                return Err(Refusal::Misfit(place));
-            }
+            let _ = nest.number(&text[start..cutter.at], start)?;
             end(text, nest)
         }
     }
@@ -77,14 +78,9 @@ pub(crate) fn pass(text: &[u8], list: &mut [Entry], held: &[Entry]) -> Result<Ta
     let mut cutter = Cutter::new();
     let mut same = true;
     while cutter.at < text.len() {
-        match advance(text, &mut cutter, &mut nest) {
-            Turn::On => {}
-            Turn::Done(node, entry) => {
-                put(list, node, entry);
-                same = still(same, held, node, entry);
-            }
-            Turn::Misfit(place) => return Err(Refusal::Misfit(place)),
-            Turn::Limit(place) => return Err(Refusal::Limit(place)),
+        if let Some((node, entry)) = advance(text, &mut cutter, &mut nest)? {
+            put(list, node, entry);
+            same = still(same, held, node, entry);
         }
     }
     let nodes = finish(text, &cutter, &mut nest)?;

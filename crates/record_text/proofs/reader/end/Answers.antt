@@ -1,6 +1,6 @@
 use Rattle.std.proofs.Common.{length, sym, ap, arith}
 use Rattle.lent.specs.Stacks.{held}
-use Rattle.record_text.specs.Passing.{outcome}
+use Rattle.record_text.specs.Turns.{outcome}
 use Rattle.record_text.proofs.Endings.{none_open, still_open}
 use Rattle.record_text.proofs.reader.end.Goals as goal
 

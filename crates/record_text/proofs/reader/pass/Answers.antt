@@ -2,7 +2,7 @@ use Rattle.std.proofs.Common.{sym, ap, ◌∙◌, subst, arith}
 use Rattle.record_text.specs.Agree.{Agrees}
 use Rattle.record_text.specs.Nest.{shape_of}
 use Rattle.record_text.specs.Pass.{written}
-use Rattle.record_text.specs.Passing.{outcome}
+use Rattle.record_text.specs.Turns.{outcome}
 use Rattle.record_text.proofs.Endings.{done_ended}
 use Rattle.record_text.proofs.reader.pass.Goals as goal
 

@@ -1,10 +1,11 @@
+use Rattle.std.specs.Prelude.{Some, None, Option as Maybe}
 use Rattle.std.proofs.Common.{◌≡◌, ℕ, ◌+◌, ◌<◌, List, get_or, sym, ap, ◌∙◌, subst, rules}
 use Rattle.lexical.specs.declared.kinds.Kind.{Kind}
 use Rattle.lexical.specs.Kinds.{kind}
 use Rattle.record_text.specs.declared.cutter.State.{State}
 use Rattle.record_text.specs.declared.cutter.State.TheVariants as state
-use Rattle.record_text.specs.declared.cutter.Ended.{Ended}
-use Rattle.record_text.specs.declared.cutter.Ended.TheVariants as ended
+use Rattle.record_text.specs.declared.cutter.Item.{Item as Told}
+use Rattle.record_text.specs.declared.cutter.Item.TheVariants as told
 use Rattle.record_text.specs.Items.{Role, greater, figure, of_kind, role, Stray}
 use Rattle.record_text.specs.Cutter.{GoodAt}
 use Rattle.record_text.proofs.Keys.{figure_key, stray_key, no_greater_key, no_figure_key}
@@ -25,10 +26,10 @@ module _ (b : ℕ) (k : Kind) (e : k ≡ kind b) where
 
 -- where the state is known
 module _ (t : List ℕ) (at : ℕ) (s s₀ : State) (e : s ≡ s₀) where
-  leaves : (at' : ℕ) (s' : State) (r : Ended) → Stepped t at s₀ at' s' r → Stepped t at s at' s' r
+  leaves : (at' : ℕ) (s' : State) (r : Maybe Told) → Stepped t at s₀ at' s' r → Stepped t at s at' s' r
   leaves at' s' r w = subst (λ x. Stepped t at x at' s' r) (sym e) w
 
-  stays : (r : Ended) → Stepped t at s₀ (at + 1) s₀ r → Stepped t at s (at + 1) s r
+  stays : (r : Maybe Told) → Stepped t at s₀ (at + 1) s₀ r → Stepped t at s (at + 1) s r
   stays r w = subst (λ x. Stepped t at x (at + 1) x r) (sym e) w
 
 begun_tag : (at : ℕ) (s : State) (start : ℕ) → s ≡ state.Tag start → GoodAt at s → start < at
@@ -42,7 +43,7 @@ returns-in-Between-Blank c =
     let t = c.args.text.now in
     let at = c.args.self.now.at in
     let r = role_is (get_or t at 0) c.kind_of.result c.kind_of.ensures ∙ ap of_kind c.in-Between-Blank.is-1 in
-    let w = stays t at c.args.self.now.state state.Between c.in-Between-Blank.is-0 ended.Blank (between_blank t at c.requires.0 r) in
+    let w = stays t at c.args.self.now.state state.Between c.in-Between-Blank.is-0 (Some told.Blank) (between_blank t at c.requires.more r) in
     record { good = w.0; falls = w.1; cuts = w.2 }
 
 pub returns-in-Between-Less : goal.returns-in-Between-Less
@@ -50,7 +51,7 @@ returns-in-Between-Less c =
     let t = c.args.text.now in
     let at = c.args.self.now.at in
     let r = role_is (get_or t at 0) c.kind_of.result c.kind_of.ensures ∙ ap of_kind c.in-Between-Less.is-1 in
-    let w = leaves t at c.args.self.now.state state.Between c.in-Between-Less.is-0 (at + 1) (state.Tag at) ended.Nothing (between_less t at c.requires.0 r) in
+    let w = leaves t at c.args.self.now.state state.Between c.in-Between-Less.is-0 (at + 1) (state.Tag at) None (between_less t at c.requires.more r) in
     record { good = w.0; falls = w.1; cuts = w.2 }
 
 pub returns-in-Between-Digit : goal.returns-in-Between-Digit
@@ -58,7 +59,7 @@ returns-in-Between-Digit c =
     let t = c.args.text.now in
     let at = c.args.self.now.at in
     let r = role_is (get_or t at 0) c.kind_of.result c.kind_of.ensures ∙ figure_key c.kind_of.result (search rules) in
-    let w = leaves t at c.args.self.now.state state.Between c.in-Between-Digit.is-0 (at + 1) (state.Number at) ended.Nothing (between_figure t at c.requires.0 r) in
+    let w = leaves t at c.args.self.now.state state.Between c.in-Between-Digit.is-0 (at + 1) (state.Number at) None (between_figure t at c.requires.more r) in
     record { good = w.0; falls = w.1; cuts = w.2 }
 
 pub returns-in-Between-default : goal.returns-in-Between-default
@@ -66,7 +67,7 @@ returns-in-Between-default c =
     let t = c.args.text.now in
     let at = c.args.self.now.at in
     let r = stray_is (get_or t at 0) c.kind_of.result c.kind_of.ensures (stray_key c.kind_of.result (search rules)) in
-    let w = stays t at c.args.self.now.state state.Between c.in-Between-default.is-0 ended.Stray (between_stray t at c.requires.0 r) in
+    let w = stays t at c.args.self.now.state state.Between c.in-Between-default.is-0 (Some told.Stray) (between_stray t at c.requires.more r) in
     record { good = w.0; falls = w.1; cuts = w.2 }
 
 pub returns-in-Tag-Greater : goal.returns-in-Tag-Greater
@@ -74,9 +75,9 @@ returns-in-Tag-Greater c =
     let t = c.args.text.now in
     let at = c.args.self.now.at in
     let start = c.in-Tag-Greater.start in
-    let g = begun_tag at c.args.self.now.state start c.in-Tag-Greater.is-0 c.requires.1.1 in
+    let g = begun_tag at c.args.self.now.state start c.in-Tag-Greater.is-0 c.requires.good.1 in
     let r = role_is (get_or t at 0) c.kind_of.result c.kind_of.ensures ∙ ap of_kind c.in-Tag-Greater.is-1 in
-    let w = leaves t at c.args.self.now.state (state.Tag start) c.in-Tag-Greater.is-0 (at + 1) state.Between (ended.Tag start) (tag_ends t at c.requires.0 start g r) in
+    let w = leaves t at c.args.self.now.state (state.Tag start) c.in-Tag-Greater.is-0 (at + 1) state.Between (Some (told.Tag start)) (tag_ends t at c.requires.more start g r) in
     record { good = w.0; falls = w.1; cuts = w.2 }
 
 pub returns-in-Tag-default : goal.returns-in-Tag-default
@@ -84,9 +85,9 @@ returns-in-Tag-default c =
     let t = c.args.text.now in
     let at = c.args.self.now.at in
     let start = c.in-Tag-default.field-0-0 in
-    let g = begun_tag at c.args.self.now.state start c.in-Tag-default.is-0 c.requires.1.1 in
+    let g = begun_tag at c.args.self.now.state start c.in-Tag-default.is-0 c.requires.good.1 in
     let r = role_not (get_or t at 0) c.kind_of.result c.kind_of.ensures greater (no_greater_key c.kind_of.result (search rules)) in
-    let w = stays t at c.args.self.now.state (state.Tag start) c.in-Tag-default.is-0 ended.Nothing (tag_goes_on t at c.requires.0 start g r) in
+    let w = stays t at c.args.self.now.state (state.Tag start) c.in-Tag-default.is-0 None (tag_goes_on t at c.requires.more start g r) in
     record { good = w.0; falls = w.1; cuts = w.2 }
 
 pub returns-in-Number-Digit : goal.returns-in-Number-Digit
@@ -94,9 +95,9 @@ returns-in-Number-Digit c =
     let t = c.args.text.now in
     let at = c.args.self.now.at in
     let start = c.in-Number-Digit.field-0-0 in
-    let g = begun_number at c.args.self.now.state start c.in-Number-Digit.is-0 c.requires.1.1 in
+    let g = begun_number at c.args.self.now.state start c.in-Number-Digit.is-0 c.requires.good.1 in
     let r = role_is (get_or t at 0) c.kind_of.result c.kind_of.ensures ∙ figure_key c.kind_of.result (search rules) in
-    let w = stays t at c.args.self.now.state (state.Number start) c.in-Number-Digit.is-0 ended.Nothing (number_goes_on t at c.requires.0 start g r) in
+    let w = stays t at c.args.self.now.state (state.Number start) c.in-Number-Digit.is-0 None (number_goes_on t at c.requires.more start g r) in
     record { good = w.0; falls = w.1; cuts = w.2 }
 
 pub returns-in-Number-default : goal.returns-in-Number-default
@@ -104,7 +105,7 @@ returns-in-Number-default c =
     let t = c.args.text.now in
     let at = c.args.self.now.at in
     let start = c.in-Number-default.start in
-    let g = begun_number at c.args.self.now.state start c.in-Number-default.is-0 c.requires.1.1 in
+    let g = begun_number at c.args.self.now.state start c.in-Number-default.is-0 c.requires.good.1 in
     let r = role_not (get_or t at 0) c.kind_of.result c.kind_of.ensures figure (no_figure_key c.kind_of.result (search rules)) in
-    let w = leaves t at c.args.self.now.state (state.Number start) c.in-Number-default.is-0 at state.Between (ended.Number start) (number_ends t at c.requires.0 start g r) in
+    let w = leaves t at c.args.self.now.state (state.Number start) c.in-Number-default.is-0 at state.Between (Some (told.Number start)) (number_ends t at c.requires.more start g r) in
     record { good = w.0; falls = w.1; cuts = w.2 }

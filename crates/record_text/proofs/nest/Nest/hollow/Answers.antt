@@ -1,24 +1,18 @@
-use Rattle.std.proofs.Common.{true, false, refl}
+use Rattle.std.proofs.Common.{[], length, refl, arith}
 use Rattle.lent.specs.Stacks.{held}
-use Rattle.record_text.proofs.Nests.{full_ups, free_held, alone_done}
+use Rattle.record_text.specs.Nest.{ups}
+use Rattle.record_text.proofs.Nests.{below_most, admitted, alone_done}
 use Rattle.record_text.proofs.nest.Nest.hollow.Goals as goal
 
-pub returns-then-is_full : goal.returns-then-is_full
-returns-then-is_full c =
+pub overflow_add-self : goal.overflow_add-self
+overflow_add-self c =
     let s = c.args.self.now in
-    record {
-      ready = c.requires;
-      went = λ t w e. (refl, full_ups t s.nodes (held s.tags) true c.if-is_full.ensures, (_, free_held s.held _ c.in_default.not-Value));
-    }
+    let l = below_most s.nodes (length (ups [] (held s.tags))) (c.in_ok-admit.ensures []).0 in
+    omega arith
 
-pub returns : goal.returns
-returns c =
-    let s = c.args.self.now in
-    record {
-      ready = c.requires;
-      went = λ t w e. (
-        full_ups t s.nodes (held s.tags) false c.if-is_full.ensures,
-        free_held s.held _ c.in_default.not-Value,
-        alone_done t w (held s.tags) s.nodes c.args.start c.args.end c.args.name_len c.len.result c.entry.result e c.len.ensures c.entry.ensures,
-      );
-    }
+pub returns-clause-went : goal.returns-clause-went
+returns-clause-went c = λ t w e.
+    let s = c.args.self.now in (
+      admitted c.args.start t s.nodes (held s.tags) s.held (c.in_ok-admit.ensures t) _ _ refl,
+      alone_done t w (held s.tags) s.nodes c.args.start c.args.end c.args.name_len c.len-depth.result c.new.result e c.len-depth.ensures c.new.ensures,
+    )
