@@ -10,11 +10,9 @@ pub mod Unique
 pub mod Shapes
 pub mod Tells
 pub mod TagForms
-pub mod Steps
-pub mod Keys
 pub mod Nests
+pub mod Firsts
 pub mod Onwards
-pub mod Endings
 pub mod Opens
 pub mod Openings
 pub mod Agreeing

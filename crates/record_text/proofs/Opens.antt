@@ -19,9 +19,9 @@ pub err_same : (e f : Refusal) → ◌≡◌ {A = Result ℕ Refusal} (Err e) (E
 err_same e f h = cc
 
 -- `?` hands the refusal on as it is
-pub err_from : (r : Result ℕ Refusal) (e : Refusal) → IsErrAnd r (λ f. f ≡ e) → r ≡ Err e
-err_from (Ok n) e h = absurd h
-err_from (Err f) e h = ap Err h
+pub error_from : {A : Type 0} (r : Result A Refusal) (e : Refusal) → IsErrAnd r (λ f. f ≡ e) → r ≡ Err e
+error_from (Ok n) e h = absurd h
+error_from (Err f) e h = ap Err h
 
 abbrev Refused : List ℕ → ℕ → Refusal → Type 0
 Refused t m e = Refuses t m (number e) (places e)

@@ -1,11 +1,10 @@
 -- The forms of a tag, and what its reading does.
 use Rattle.std.specs.Prelude.{Option as Maybe, Result}
 use Rattle.std.specs.Bool.{then_some}
-use Rattle.std.proofs.Common.{◌≡◌, ℕ, Bool, true, false, cond, ◌++◌, ◌+◌, ◌-◌, ◌<◌, ◌≤◌, List, [], ◌∷◌, length, take, drop, sym, refl, ap, ◌∙◌, subst, arith, length-append, length-drop, length-take-le}
+use Rattle.std.proofs.Common.{◌≡◌, ℕ, Bool, true, false, cond, ◌++◌, ◌+◌, List, [], ◌∷◌, length, sym, refl, ap, ◌∙◌, subst, arith}
 use Rattle.std.proofs.lemmas.List.{take_at, length_push}
 use Rattle.refusals.specs.declared.Refusal.{Refusal}
 use Rattle.record_text.specs.Grammar.{tag, bytes}
-use Rattle.record_text.specs.Cutter.{part}
 use Rattle.record_text.specs.Machine.{Shape, Tag, opens, closes, whole, bad, named, tag_of}
 use Rattle.record_text.specs.Reading.{slash_first, slash_last}
 use Rattle.record_text.specs.declared.tags.Tag.{Tag as Told}
@@ -58,17 +57,3 @@ opening_body bs w e = sym (subst (TagIs bs) e (tag_is bs)).0
 
 pub went_as : (p q : ℕ) (s s' : Shape) (bs : List ℕ) (x : Tag) (r : Result (Maybe Done) Refusal) → tag_of bs ≡ x → p + length (bytes (tag bs)) ≡ q → WentTag p q s x s' r → Went p s (tag bs) s' r
 went_as p q s s' bs x r e f w = subst (λ y. WentTag p (p + length (bytes (tag bs))) s y s' r) (sym e) (subst (λ n. WentTag p n s x s' r) (sym f) w)
-
--- the body of a tag
-module _ (t : List ℕ) (a z : ℕ) (h : a ≤ z) (l : z ≤ length t) where
-  pub part_length : length (part t a z) ≡ z - a
-  part_length = length-take-le (z - a) (drop a t) (omega (arith, length-drop a t))
-
-  pub part_again : part t a (a + length (part t a z)) ≡ part t a z
-  part_again = let n : (a + length (part t a z)) - a ≡ z - a = omega (arith, part_length) in ap (λ k. take k (drop a t)) n
-
-pub tag_end : (t : List ℕ) (start at : ℕ) → start < at → at < length t → start + length (bytes (tag (part t (start + 1) at))) ≡ at + 1
-tag_end t start at h l =
-    let n = part_length t (start + 1) at (omega arith) (omega arith) in
-    let m = length-append (part t (start + 1) at) (62 ∷ []) in
-    omega arith

@@ -1,5 +1,5 @@
 -- What the reader says of an item, and of a step.
-use Rattle.std.specs.Prelude.{◌≡◌, ℕ, Bool, true, false, ◌&&◌, List, ◌++◌, length, Ok, Err, Option as Maybe, Result}
+use Rattle.std.specs.Prelude.{◌≡◌, ℕ, Bool, true, false, ◌&&◌, List, length, Ok, Err, Option as Maybe, Result}
 use Rattle.std.specs.Option.{option_to_list}
 use Rattle.std.proofs.Math.Option.{Option, some, none}
 use Rattle.refusals.specs.declared.Refusal.{Refusal}
@@ -7,7 +7,7 @@ use Rattle.refusals.specs.declared.Refusal.TheVariants as refusal
 use Rattle.record_text.specs.Grammar.{Item}
 use Rattle.record_text.specs.Machine.{Shape, Tag, free, move, move_tag}
 use Rattle.record_text.specs.Reading.{Outcome, accepted, misfit, limit}
-use Rattle.record_text.specs.Pass.{starts, full, over, check, Done, done_by, done_by_tag, done}
+use Rattle.record_text.specs.Pass.{starts, full, over, at_end, Done, done_by, done_by_tag}
 
 -- an outcome, as the code answers it
 abbrev pub outcome : Outcome → Result ℕ Refusal
@@ -38,7 +38,7 @@ WentTag p q s x s' r = Passed p (starts x && full s.nodes (length s.up)) (move_t
 abbrev pub Went : ℕ → Shape → Item → Shape → Result (Maybe Done) Refusal → Type 0
 Went p s i s' r = Passed p (over s i) (move p s i) (done_by p s i) s' r
 
--- what is left to read from p on, before and after a step
-abbrev pub Onward : ℕ → Shape → List Item → ℕ → Shape → List Item → Result (Maybe Done) Refusal → Type 0
-Onward p s is p' s' is' (Ok d) = (check p s is ≡ check p' s' is') × (done p s is ≡ option_to_list d ++ done p' s' is')
-Onward p s is p' s' is' (Err e) = outcome (check p s is) ≡ Err e
+-- the end of the text, at p
+abbrev pub Ended : ℕ → Shape → Result (Unit {0}) Refusal → Type 0
+Ended p s (Ok u) = at_end p s.nodes s.up ≡ accepted s.nodes
+Ended p s (Err e) = outcome (at_end p s.nodes s.up) ≡ Err e

@@ -1,46 +1,43 @@
-ghost use Rattle.std.specs.Prelude.{◌≡◌, ℕ, ◌+◌, ◌<◌, List, length};
+ghost use Rattle.std.specs.Prelude.{◌≡◌, ℕ, ◌+◌, List, length};
 ghost use Rattle.lent.specs.Stacks.{held};
-ghost use Rattle.record_text.specs.Cutter.{part};
-ghost use Rattle.record_text.specs.Grammar.{num, tag};
-ghost use Rattle.records.specs.Limits.{most_levels};
+ghost use Rattle.record_text.specs.Cutting.{TagSpans, item_of};
+ghost use Rattle.record_text.specs.Entries.{entry};
+ghost use Rattle.record_text.specs.Grammar.{bytes, num, tag};
 ghost use Rattle.record_text.specs.Machine.{closes, opens, same, whole};
-ghost use Rattle.record_text.specs.Nest.{Ready, held_of, name_of, shape_of};
+ghost use Rattle.record_text.specs.Nest.{held_of, shape_of};
 ghost use Rattle.record_text.specs.Pass.{entry_of, full, start as first};
-ghost use Rattle.record_text.specs.Turns.{Admitted, Went, WentTag};
+ghost use Rattle.record_text.specs.Turns.{Admitted, Ended, Went, WentTag};
 
 use super::{Done, Held, Nest, OpenTag};
 use crate::entry::Entry;
-use crate::names::has_name;
+use crate::items::{Item, Placed};
 use crate::tags::{Tag, tag_of};
 use lent::Stack;
 use lexical::number;
-use records::MOST_NODES;
+use records::{MOST_LEVELS, MOST_NODES};
 use refusals::Refusal;
 
-// The entry of an element that holds this.
-fn entry(held: Held, start: usize, end: usize, name_len: usize, depth: usize) -> Entry
-    ensures { result ≡ entry_of start (held_of held) end name_len depth }
+// Whether the open tag has the name.
+fn is_named(tag: OpenTag<'_>, name: &[u8]) -> bool
+    ensures { result ≡ same name.now tag.entry.name.now }
 {
-    let value = match held {
+    name == tag.name
+}
+
+// The value of an element that holds this.
+fn value_of(held: Held) -> Option<i32>
+    ensures { (p q n d : ℕ) → entry p q n d result ≡ entry_of p (held_of held) q n d }
+{
+    match held {
         Held::Value(value) => Some(value),
         Held::Blanks | Held::Elements => None,
-    };
-    Entry::new(start, end, name_len, depth, value)
+    }
 }
 
-// Whether the open tag has the name.
-fn is_named(text: &[u8], tag: OpenTag, name: &[u8]) -> bool
-    ensures { result ≡ same name.now (name_of text.now tag) }
-{
-    has_name(text, tag.place, tag.name_len, name)
-}
-
-impl<'s> Nest<'s> {
+impl<'t, 's> Nest<'t, 's> {
     // No element yet, over slots for the open tags.
-    pub(crate) fn over(slots: &'s mut [OpenTag]) -> Nest<'s>
-        requires { length slots.old ≡ most_levels }
-        ensures ready { Ready result }
-        ensures first { (t : List ℕ) → shape_of t result ≡ first }
+    pub(crate) fn over(slots: &'s mut [OpenTag<'t>; MOST_LEVELS]) -> Nest<'t, 's>
+        ensures { shape_of result ≡ first }
     {
         Nest {
             nodes: 0,
@@ -51,16 +48,14 @@ impl<'s> Nest<'s> {
 
     // Whether one element more would be a node too many or lie too deep.
     fn is_full(&self) -> bool
-        requires { Ready self.now }
         ensures { result ≡ full self.now.nodes (length (held self.now.tags)) }
     {
         self.nodes >= MOST_NODES || self.tags.is_full()
     }
 
-    // Refuses an element that begins at `place`, where it may not.
+    // Refuses an element that begins at `place`, where it may not: after a number, or beyond a limit.
     fn admit(&self, place: usize) -> Result<(), Refusal>
-        requires { Ready self.now }
-        ensures { (t : List ℕ) → Admitted place (shape_of t self.now) result }
+        ensures { Admitted place (shape_of self.now) result }
     {
         if let Held::Value(_) = self.held {
             return Err(Refusal::Misfit(place));
@@ -72,10 +67,8 @@ impl<'s> Nest<'s> {
     }
 
     // A number item, which began at `place`.
-    pub(crate) fn number(&mut self, digits: &[u8], place: usize) -> Result<Option<Done>, Refusal>
-        requires { Ready self.old }
-        ensures ready { Ready self.new }
-        ensures went { (t : List ℕ) → Went place (shape_of t self.old) (num digits.now) (shape_of t self.new) result }
+    fn number(&mut self, digits: &[u8], place: usize) -> Result<Option<Done>, Refusal>
+        ensures { Went place (shape_of self.old) (num digits.now) (shape_of self.new) result }
     {
         match (self.held, number(digits)) {
             (Held::Blanks, Some(value)) => {
@@ -87,77 +80,77 @@ impl<'s> Nest<'s> {
     }
 
     // An opening tag.
-    fn begin(&mut self, place: usize, name_len: usize) -> Result<Option<Done>, Refusal>
-        requires { Ready self.old }
-        ensures ready { Ready self.new }
-        ensures went { (t : List ℕ) (q : ℕ) → WentTag place q (shape_of t self.old) (opens (part t (place + 1) (place + 1 + name_len))) (shape_of t self.new) result }
+    fn begin(&mut self, name: &'t [u8], place: usize) -> Result<Option<Done>, Refusal>
+        ensures { (q : ℕ) → WentTag place q (shape_of self.old) (opens name.now) (shape_of self.new) result }
     {
         self.admit(place)?;
         let node = self.nodes;
-        let _ = self.tags.push(OpenTag {
-            place,
-            name_len,
-            node,
-        });
+        let _ = self.tags.push(OpenTag { name, place, node });
         self.nodes = node + 1;
         self.held = Held::Blanks;
         Ok(None)
     }
 
     // An empty tag.
-    fn hollow(&mut self, start: usize, end: usize, name_len: usize) -> Result<Option<Done>, Refusal>
-        requires { Ready self.old }
-        ensures ready { Ready self.new }
-        ensures went { (t w : List ℕ) → length w ≡ name_len → WentTag start end (shape_of t self.old) (whole w) (shape_of t self.new) result }
+    fn hollow(&mut self, name: &[u8], start: usize, end: usize) -> Result<Option<Done>, Refusal>
+        ensures { WentTag start end (shape_of self.old) (whole name.now) (shape_of self.new) result }
     {
         self.admit(start)?;
         let node = self.nodes;
         self.nodes = node + 1;
         self.held = Held::Elements;
-        let depth = self.tags.len();
-        Ok(Some((node, Entry::new(start, end, name_len, depth, None))))
+        let entry = Entry::new(start, end, name.len(), self.tags.len(), None);
+        Ok(Some((node, entry)))
     }
 
     // A closing tag, from `place` to `end`.
-    fn close(
-        &mut self,
-        text: &[u8],
-        name: &[u8],
-        place: usize,
-        end: usize,
-    ) -> Result<Option<Done>, Refusal>
-        requires { Ready self.old }
-        ensures ready { Ready self.new }
-        ensures went { WentTag place end (shape_of text.now self.old) (closes name.now) (shape_of text.now self.new) result }
+    fn close(&mut self, name: &[u8], place: usize, end: usize) -> Result<Option<Done>, Refusal>
+        ensures { WentTag place end (shape_of self.old) (closes name.now) (shape_of self.new) result }
     {
         let tag = self.tags.pop().ok_or(Refusal::Misfit(place))?;
-        if !is_named(text, tag, name) {
+        if !is_named(tag, name) {
             return Err(Refusal::Misfit(place));
         }
-        let held = self.held;
+        let value = value_of(self.held);
         self.held = Held::Elements;
-        let depth = self.tags.len();
-        Ok(Some((tag.node, entry(held, tag.place, end, name.len(), depth))))
+        let entry = Entry::new(tag.place, end, name.len(), self.tags.len(), value);
+        Ok(Some((tag.node, entry)))
     }
 
-    // The tag whose `<` stands at `start` and whose `>` stands at `at`.
-    pub(crate) fn tag(
-        &mut self,
-        text: &[u8],
-        start: usize,
-        at: usize,
-    ) -> Result<Option<Done>, Refusal>
-        requires ready { Ready self.old }
-        requires begun { start < at }
-        requires within { at < length text.now }
-        ensures ready { Ready self.new }
-        ensures went { Went start (shape_of text.now self.old) (tag (part text.now (start + 1) at)) (shape_of text.now self.new) result }
+    // A tag by its body.
+    fn tag(&mut self, body: &'t [u8], start: usize, end: usize) -> Result<Option<Done>, Refusal>
+        requires { start + length (bytes (tag body.now)) ≡ end }
+        ensures { Went start (shape_of self.old) (tag body.now) (shape_of self.new) result }
     {
-        match tag_of(&text[start + 1..at]) {
-            Some(Tag::Opening(name)) => self.begin(start, name.len()),
-            Some(Tag::Closing(name)) => self.close(text, name, start, at + 1),
-            Some(Tag::Alone(name)) => self.hollow(start, at + 1, name.len()),
+        match tag_of(body) {
+            Some(Tag::Opening(name)) => self.begin(name, start),
+            Some(Tag::Closing(name)) => self.close(name, start, end),
+            Some(Tag::Alone(name)) => self.hollow(name, start, end),
             None => Err(Refusal::Misfit(start)),
         }
+    }
+
+    // The next item of the text.
+    pub(crate) fn take(&mut self, piece: Placed<'t>) -> Result<Option<Done>, Refusal>
+        requires { TagSpans piece.start piece.item piece.end }
+        ensures { (t : List ℕ) → Went piece.entry.start (shape_of self.old) (item_of t piece.entry.item) (shape_of self.new) result }
+    {
+        let start = piece.start;
+        match piece.item {
+            Item::Gap => Ok(None),
+            Item::Tag(body) => self.tag(body, start, piece.end),
+            Item::Number(digits) => self.number(digits, start),
+            Item::Stray | Item::Lone => Err(Refusal::Misfit(start)),
+        }
+    }
+
+    // The end of the text, at `place`.
+    pub(crate) fn end(&self, place: usize) -> Result<(), Refusal>
+        ensures { Ended place (shape_of self.now) result }
+    {
+        if self.tags.len() > 0 {
+            return Err(Refusal::Misfit(place));
+        }
+        Ok(())
     }
 }

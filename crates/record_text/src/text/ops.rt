@@ -4,7 +4,7 @@ ghost use Rattle.record_text.specs.Parts.{part_of, place_of, span};
 
 use super::TextRecord;
 use crate::entry::Entry;
-use crate::reader::pass;
+use crate::opening::compared;
 use refusals::Refusal;
 
 // How many nodes the text has, with whose entries the list begins.
@@ -12,11 +12,7 @@ fn agreed(text: &[u8], list: &[Entry]) -> Result<usize, Refusal>
     ensures agreed { Agreed text.now list.now result }
     ensures settled { Settled text.now list.now (refusal_of result) }
 {
-    let tally = pass(text, &mut [], list)?;
-    if !tally.is_of(list) {
-        return Err(Refusal::List);
-    }
-    Ok(tally.nodes)
+    compared(text, list)?.ok_or(Refusal::List)
 }
 
 // The bytes from one place to another, as far as the text goes.

@@ -9,17 +9,17 @@ use Rattle.record_text.proofs.nest.Nest.begin.Goals as goal
 pub overflow_add-self : goal.overflow_add-self
 overflow_add-self c =
     let s = c.args.self.now in
-    let l = below_most s.nodes (length (ups [] (held s.tags))) (c.in_ok-admit.ensures []).0 in
+    let l = below_most s.nodes (length (ups (held s.tags))) c.in_ok-admit.ensures.0 in
     omega arith
 
-pub returns-clause-went : goal.returns-clause-went
-returns-clause-went c = λ t q.
+pub returns : goal.returns
+returns c = λ q.
     let s = c.args.self.now in
     let p = c.args.place in
     let e = c.push.ensures in
     let os = held s.tags in
-    let a = c.in_ok-admit.ensures t in
-    let o : OpenTag = record { place = p; name_len = c.args.name_len; node = s.nodes } in
-    let fits : c.push.result ≡ true = has_room p t s.nodes os s.held a (room s.tags) c.push.result c.requires e.test in
+    let a = c.in_ok-admit.ensures in
+    let o : OpenTag = record { name = c.args.name; place = p; node = s.nodes } in
+    let fits : c.push.result ≡ true = has_room p s.nodes os s.held a (room s.tags) c.push.result s.ready e.test in
     let more : held c.push.new.self ≡ os ++ o ∷ [] = e.held ∙ ap (λ b. cond b (os ++ o ∷ []) os) fits in
-    (admitted p t s.nodes os s.held a _ _ (ap (λ u. shape (s.nodes + 1) u blanks) (sym (ap (ups t) more ∙ ups_push t os o))), refl)
+    (admitted p s.nodes os s.held a _ _ (ap (λ u. shape (s.nodes + 1) u blanks) (sym (ap ups more ∙ ups_push os o))), refl)

@@ -1,12 +1,7 @@
-use Rattle.std.proofs.Common.{◌≡◌, IsErrAnd, Ok, Err, Result, sym, refl, ap, subst}
-use Rattle.refusals.specs.declared.Refusal.{Refusal}
+use Rattle.std.proofs.Common.{◌≡◌, Err, sym, refl, subst}
 use Rattle.record_text.specs.Laying.{Laid, Settled, refusal_of}
+use Rattle.record_text.proofs.Opens.{error_from}
 use Rattle.record_text.proofs.text.TextRecord.lay.Goals as goal
-
--- `?` hands the refusal on as it is
-err_from : (r : Result (Unit {0}) Refusal) (e : Refusal) → IsErrAnd r (λ f. f ≡ e) → r ≡ Err e
-err_from (Ok n) e h = absurd h
-err_from (Err f) e h = ap Err h
 
 pub returns-in_err-count : goal.returns-in_err-count
 returns-in_err-count c =
@@ -15,5 +10,5 @@ returns-in_err-count c =
     let x = c.args.self.now in
     let e = c.in_err-count.field-0.0 in
     let f = c.in_err-count.ensures in
-    let q : c.from_residual.result ≡ Err e = err_from c.from_residual.result e c.from_residual.ensures.1 in
+    let q : c.from_residual.result ≡ Err e = error_from c.from_residual.result e c.from_residual.ensures.1 in
     record { laid = subst (λ r. Laid t l r x x) (sym q) (f.agreed, refl); settled = subst (λ r. Settled t l (refusal_of r)) (sym q) f.settled }

@@ -1,38 +1,22 @@
-use Rattle.std.proofs.Common.{◌≡◌, Err, sym, subst}
-use Rattle.record_text.specs.Laying.{Agreed, differs, Settled, refusal_of}
-use Rattle.record_text.proofs.Opens.{err_from}
-use Rattle.record_text.proofs.Lays.{unlaid, settled_unlaid, differing, settled_differing, agreeing, settled_agreeing}
+use Rattle.std.proofs.Common.{sym, subst}
+use Rattle.record_text.specs.Laying.{Agreed, Settled, refusal_of}
+use Rattle.record_text.proofs.Opens.{error_from}
+use Rattle.record_text.proofs.Lays.{unlaid, settled_unlaid, settled_by}
 use Rattle.record_text.proofs.text.ops.agreed.Goals as goal
 
-pub returns-in_err-tally : goal.returns-in_err-tally
-returns-in_err-tally c =
+pub returns-in_err-compared : goal.returns-in_err-compared
+returns-in_err-compared c =
     let t = c.args.text.now in
     let l = c.args.list.now in
-    let e = c.in_err-tally.field-0.0 in
-    let f = c.in_err-tally.ensures.answer in
-    let q : c.from_residual.result ≡ Err e = err_from c.from_residual.result e c.from_residual.ensures.1 in
-    record { agreed = subst (Agreed t l) (sym q) (unlaid t l e f); settled = subst (λ r. Settled t l (refusal_of r)) (sym q) (settled_unlaid t l e f) }
-
-pub returns-then-not-is_of : goal.returns-then-not-is_of
-returns-then-not-is_of c =
-    let t = c.args.text.now in
-    let l = c.args.list.now in
-    let x = c.in_ok-tally.tally in
-    let f = c.in_ok-tally.ensures in
-    let b = c.if-not-is_of.ensures in
-    record {
-      agreed = differs (differing t l x.nodes f.answer x.same f.compared b);
-      settled = settled_differing t l x.nodes f.answer x.same f.compared b;
-    }
+    let e = c.in_err-compared.field-0.0 in
+    let h = sym c.in_err-compared.ensures in
+    let q = sym (error_from c.from_residual.result e c.from_residual.ensures.1) in
+    record { agreed = subst (Agreed t l) q (unlaid t l e h); settled = subst (λ r. Settled t l (refusal_of r)) q (settled_unlaid t l e h) }
 
 pub returns : goal.returns
 returns c =
     let t = c.args.text.now in
     let l = c.args.list.now in
-    let x = c.in_ok-tally.tally in
-    let f = c.in_ok-tally.ensures in
-    let b = c.if-not-is_of.ensures in
-    record {
-      agreed = agreeing t l x.nodes f.answer x.same f.compared b;
-      settled = settled_agreeing t l x.nodes f.answer x.same f.compared b;
-    }
+    let k = settled_by t l c.in_ok-compared.field-0 c.in_ok-compared.ensures in
+    let q = sym c.ok_or.ensures.value in
+    record { agreed = subst (Agreed t l) q k.0; settled = subst (λ r. Settled t l (refusal_of r)) q k.1 }
