@@ -2,12 +2,11 @@
 use Rattle.std.proofs.Common.{◌≡◌, ◌≤◌, ℕ, true, ◌⊎◌, List, length, take, Some, None, Ok, Err, Option, Result, sym, refl, ap, ◌∙◌, subst, arith, length-take}
 use mathlib.Core.Bool.{false≢true}
 use lib.ListN.{length-map}
-use Rattle.std.proofs.lemmas.List.{take_at}
+use Rattle.std.proofs.lemmas.List.{take_at, take_all}
 use Rattle.std.proofs.lemmas.Bool.{eq-eqb, eqb-true}
 use Rattle.refusals.specs.declared.Refusal.{Refusal}
 use Rattle.refusals.specs.declared.Refusal.TheVariants as refusal
 use Rattle.refusals.specs.Refusals.{number, places}
-use Rattle.records.specs.Nodes.{Shape}
 use Rattle.record_text.specs.declared.entry.Entry.{Entry}
 use Rattle.record_text.specs.declared.text.TextRecord.{TextRecord}
 use Rattle.record_text.specs.Reading.{Outcome, accepted, misfit, limit, Answer, Accepted, Misfit, Unclosed, Limit}
@@ -15,10 +14,8 @@ use Rattle.record_text.specs.Opening.{Reads}
 use Rattle.record_text.specs.Pass.{accepts, completed, read}
 use Rattle.record_text.specs.Agree.{Agrees}
 use Rattle.record_text.specs.Turns.{outcome}
-use Rattle.record_text.specs.Passing.{Compared}
-use Rattle.std.specs.Option.{ok_or}
-use Rattle.record_text.specs.Texts.{text_node, text_nodes}
-use Rattle.record_text.specs.Laying.{differs, Begins, text_of, entries_of, RecordsRead, Differs, Unlaid, misfits, limits, Laid, refusal_of, Settled, Agreed}
+use Rattle.record_text.specs.Texts.{text_node}
+use Rattle.record_text.specs.Laying.{Begins, text_of, entries_of, RecordsRead, Differs, Unlaid, misfits, limits, Laid, refusal_of, Settled, Tied}
 use Rattle.record_text.proofs.Read.{read_answers}
 use Rattle.record_text.proofs.Only.{only}
 use Rattle.record_text.proofs.Unique.{one_list}
@@ -41,11 +38,11 @@ accepts_is (limit p) n e = absurd (false≢true e)
 pub records_read : RecordsRead
 records_read x =
     let t = x.text.now in
-    let l = x.list.now in
-    let n = x.count in
+    let l = x.nodes.now in
+    let n : ℕ = length l in
     let a : Accepted t n = subst (Answer t) (accepts_is (read t) n x.fine) (read_answers t) in
     let r : Reads t a.1 = (a.0, a.2, a.3, a.4) in
-    let e : take n l ≡ a.1 = ap (take n) (sym x.same ∙ entries_are t a.1 l r (omega (arith, a.5, x.room))) ∙ take_at a.1 _ n a.5 in
+    let e : l ≡ a.1 = sym (take_all n l (omega arith)) ∙ (ap (take n) (sym x.same ∙ entries_are t a.1 l r (omega (arith, a.5))) ∙ take_at a.1 _ n a.5) in
     subst (Reads t) (sym e) r
 
 refused_by : (t : List ℕ) (l : List Entry) (o : Outcome) (e : Refusal) → Answer t o → ◌≡◌ {A = Result ℕ Refusal} (Err e) (outcome o) → Refused t l e
@@ -111,23 +108,21 @@ module _ (t : List ℕ) (l : List Entry) where
 
     -- or begins with them
     module _ (m : n ≤ length l) (a : Agrees (completed t) l) where
-      pub agreeing : Agreed t l (Ok n)
+      pub agreeing : Tied t (take n l) × Reads t (take n l) × (take (length (take n l)) l ≡ take n l)
       agreeing =
           let r = reading in
           let e = whole m a r.0 r.1 r.2 in
           let y : take n l ≡ r.0 = ap (λ k. take k l) (sym r.2) ∙ e in
-          let k = subst (λ x. Shape (text_nodes t x)) (sym y) (keeps_shape t r.0 r.1) in
-          let v = (keeps_shape t r.0 r.1).0 in
-          let w = length-map r.0 (text_node t) in (
-            record {
-              fine = accepts_yes (read t) n (counted (read t) n h);
-              room = m;
-              same = begins_same t r.0 l r.1 (omega (arith, r.2)) e;
-              few = omega (arith, r.2);
-              shape = k.1;
-            },
-            (r.0, r.1, e, y),
-          )
+          let k = keeps_shape t r.0 r.1 in
+          let w = length-map r.0 (text_node t) in
+          let z : take (length r.0) r.0 ≡ r.0 = take_all (length r.0) r.0 (omega arith) in
+          let tied : Tied t r.0 = record {
+            fine = accepts_yes (read t) (length r.0) (counted (read t) n h ∙ ap accepted (sym r.2));
+            same = begins_same t r.0 r.0 r.1 (omega arith) z;
+            few = omega (arith, k.0);
+            shape = k.1;
+          } in
+          subst (λ x. Tied t x × Reads t x × (take (length x) l ≡ x)) (sym y) (tied, r.1, e)
 
       pub settled_agreeing : Settled t l None
       settled_agreeing = (
@@ -138,11 +133,6 @@ module _ (t : List ℕ) (l : List Entry) where
             let k : length x.0 ≡ n = let o : accepted n ≡ accepted (length x.0) = sym (counted (read t) n h) ∙ reads_accepted x.0 x.1 in cc in
             absurd (x.2 (whole m a x.0 x.1 k)),
       )
-
--- what the comparison answers
-pub settled_by : (t : List ℕ) (l : List Entry) (o : Option ℕ) → Compared t l (Ok o) → Agreed t l (ok_or o refusal.List) × Settled t l (refusal_of (ok_or o refusal.List))
-settled_by t l None (n, h, f) = (differs (differing t l n (sym h) f), settled_differing t l n (sym h) f)
-settled_by t l (Some n) (h, m, a) = (agreeing t l n (sym h) m a, settled_agreeing t l n (sym h) m a)
 
 -- where the list begins with the entries, the record holds them afterwards
 pub laid_entries : (t : List ℕ) (l : List Entry) (r : Result (Unit {0}) Refusal) (x y : TextRecord) → Laid t l r x y → Settled t l (refusal_of r) → (es : List Entry) → Reads t es →

@@ -1,5 +1,6 @@
 -- What `lay` answers to a text and a list, and what the record is afterwards.
 use Rattle.std.specs.Prelude.{◌≡◌, ℕ, ◌≤◌, true, ◌⊎◌, List, [], ◌∷◌, length, take, Some, None, Ok, Err, Option, Result, ◌≢◌}
+use Rattle.std.specs.Borrow.{Bor}
 use Rattle.refusals.specs.declared.Refusal.{Refusal}
 use Rattle.refusals.specs.declared.Refusal.TheVariants as refusal
 use Rattle.refusals.specs.Refusals.{number, places}
@@ -17,7 +18,7 @@ abbrev pub text_of : TextRecord → List ℕ
 text_of x = x.text.now
 
 abbrev pub entries_of : TextRecord → List Entry
-entries_of x = take x.count x.list.now
+entries_of x = x.nodes.now
 
 -- every record holds the entries that the grammar derives
 abbrev pub RecordsRead : Type 0
@@ -53,15 +54,14 @@ Settled t l o =
     × ((p : ℕ) → Limit t p → o ≡ Some (refusal.Limit p))
     × (Differs t l → o ≡ Some refusal.List)
 
--- by equations, as a record keeps it: n nodes are accepted, and a pass would write into the list what it has
-pub record Tied (t : List ℕ) (n : ℕ) (l : List Entry) : Type 0 where
-  pub fine : accepts (read t) n ≡ true
-  pub room : n ≤ length l
-  pub same : entries t l ≡ l
-  pub few : n ≤ most_nodes
-  pub shape : shaped 0 (text_nodes t (take n l)) ≡ true
+-- by equations, as a record keeps it: so many nodes are accepted, and a pass would write these entries
+pub record Tied (t : List ℕ) (es : List Entry) : Type 0 where
+  pub fine : accepts (read t) (length es) ≡ true
+  pub same : entries t es ≡ es
+  pub few : length es ≤ most_nodes
+  pub shape : shaped 0 (text_nodes t es) ≡ true
 
 -- the answer before the record is set
-abbrev pub Agreed : List ℕ → List Entry → Result ℕ Refusal → Type 0
-Agreed t l (Ok n) = Tied t n l × ((es : List Entry) × Reads t es × (take (length es) l ≡ es) × (take n l ≡ es))
+abbrev pub Agreed : List ℕ → List Entry → Result (Bor (List Entry)) Refusal → Type 0
+Agreed t l (Ok es) = Tied t es.now × Reads t es.now × (take (length es.now) l ≡ es.now)
 Agreed t l (Err e) = Unlaid t l (number e) (places e)
