@@ -1,5 +1,5 @@
 -- The first item of a text, as the cutter gives it.
-use Rattle.std.proofs.Common.{◌≡◌, ℕ, ◌+◌, ◌-◌, ◌<◌, ◌≤◌, ◌⊎◌, inl, inr, List, [], ◌∷◌, ◌++◌, length, sym, refl, ap, ◌∙◌, subst, arith, length-append, length-take-le, take-append-drop}
+use Rattle.std.proofs.Common.{◌≡◌, ℕ, ◌+◌, ◌-◌, ◌<◌, ◌≤◌, List, [], ◌∷◌, ◌++◌, length, sym, refl, ap, ◌∙◌, subst, arith, length-append, length-take-le, take-append-drop}
 use mathlib.Core.Bool.{false≢true}
 use Rattle.std.specs.Prelude.{◌≢◌, Bool, true, false, cond, not, take, drop, Some, None, ◌==◌, nat_lt, slice_index}
 use Rattle.std.specs.List.{position, position_or_len}
@@ -119,22 +119,19 @@ module _ (b : ℕ) (k : Kind) (e : k ≡ kind b) where
   unfolding role
   kind_role = ap of_kind (sym e)
 
-  pub kind_figure : (k ≡ Digit) ⊎ ((k ≡ Hyphen) ⊎ (k ≡ Point)) → figure_kind (kind b) ≡ true
-  kind_figure o = ap figure_kind (sym e) ∙ elim o [ inl q ↦ ap figure_kind q | inr r ↦ elim r [ inl q ↦ ap figure_kind q | inr q ↦ ap figure_kind q ] ]
-
-  pub kind_stray : (k ≡ Digit → ⊥) → (k ≡ Hyphen → ⊥) → (k ≡ Point → ⊥) → (k ≡ Less → ⊥) → (k ≡ Blank → ⊥) → StrayRole (role b)
-  kind_stray d h p l s = subst StrayRole (sym kind_role) (go k d h p l s)
+  pub kind_stray : false ≡ figure_kind k → (k ≡ Less → ⊥) → (k ≡ Blank → ⊥) → StrayRole (role b)
+  kind_stray f l s = subst StrayRole (sym kind_role) (go k f l s)
     where
-      go : (k : Kind) → (k ≡ Digit → ⊥) → (k ≡ Hyphen → ⊥) → (k ≡ Point → ⊥) → (k ≡ Less → ⊥) → (k ≡ Blank → ⊥) → StrayRole (of_kind k)
-      go Letter d h p l s = tt
-      go Digit d h p l s = d refl
-      go Hyphen d h p l s = h refl
-      go Point d h p l s = p refl
-      go Less d h p l s = l refl
-      go Greater d h p l s = tt
-      go Slash d h p l s = tt
-      go Blank d h p l s = s refl
-      go Other d h p l s = tt
+      go : (k : Kind) → false ≡ figure_kind k → (k ≡ Less → ⊥) → (k ≡ Blank → ⊥) → StrayRole (of_kind k)
+      go Letter f l s = tt
+      go Digit f l s = false≢true f
+      go Hyphen f l s = false≢true f
+      go Point f l s = false≢true f
+      go Less f l s = l refl
+      go Greater f l s = tt
+      go Slash f l s = tt
+      go Blank f l s = s refl
+      go Other f l s = tt
 
 not_empty : (ds : List ℕ) → 1 ≤ length ds → NotEmpty ds
 not_empty [] h = absurd (omega arith)

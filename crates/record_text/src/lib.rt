@@ -4,7 +4,6 @@
 mod entry;
 mod items;
 mod laws;
-mod names;
 mod nest;
 mod opening;
 mod reader;

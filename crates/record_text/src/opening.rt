@@ -18,7 +18,7 @@ fn counted(text: &[u8]) -> Result<usize, Refusal>
 {
     let mut slots = [NO_TAG; MOST_LEVELS];
     let mut reader = Reader::over(text, &mut slots);
-    while let Some(_) = reader.next()? {}
+    while let Some(_) = reader.next_node()? {}
     Ok(reader.nodes())
 }
 
@@ -37,7 +37,7 @@ fn fill(text: &[u8], list: &mut [Entry]) -> Result<(), Refusal>
 {
     let mut slots = [NO_TAG; MOST_LEVELS];
     let mut reader = Reader::over(text, &mut slots);
-    while let Some((node, entry)) = reader.next()? {
+    while let Some((node, entry)) = reader.next_node()? {
         put(list, node, entry);
     }
     Ok(())
@@ -56,7 +56,7 @@ pub(crate) fn compared(text: &[u8], list: &[Entry]) -> Result<Option<usize>, Ref
     let mut slots = [NO_TAG; MOST_LEVELS];
     let mut reader = Reader::over(text, &mut slots);
     let mut same = true;
-    while let Some((node, entry)) = reader.next()? {
+    while let Some((node, entry)) = reader.next_node()? {
         same = same && has(list, node, entry);
     }
     let nodes = reader.nodes();

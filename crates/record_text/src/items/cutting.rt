@@ -23,7 +23,7 @@ impl<'t> Cutter<'t> {
     }
 
     // The next item, unless the text is at its end.
-    pub(crate) fn next(&mut self) -> Option<Placed<'t>>
+    pub(crate) fn next_item(&mut self) -> Option<Placed<'t>>
         ensures { Cuts self.old result self.new }
     {
         let start = self.place();

@@ -8,17 +8,11 @@ ghost use Rattle.record_text.specs.Cutting.{First, no_figure};
 use super::Item;
 use lexical::{Kind, kind_of};
 
-fn in_number(b: u8) -> bool
-    ensures { result ≡ figure_kind (kind b) }
-{
-    matches!(kind_of(b), Kind::Digit | Kind::Hyphen | Kind::Point)
-}
-
 // Where the first byte stands that is none of numbers.
 fn first_other(text: &[u8]) -> Option<usize>
     ensures { result ≡ position no_figure text.now }
 {
-    text.iter().position(|b| !in_number(*b))
+    text.iter().position(|b| !kind_of(*b).in_number())
 }
 
 // Where the first `>` stands.
@@ -56,7 +50,7 @@ pub(super) fn first_item(text: &[u8]) -> Option<(Item<'_>, &[u8])>
     match kind_of(*byte) {
         Kind::Blank => Some((Item::Gap, rest)),
         Kind::Less => Some(tag(rest)),
-        Kind::Digit | Kind::Hyphen | Kind::Point => Some(number(text)),
+        kind if kind.in_number() => Some(number(text)),
         _ => Some((Item::Stray, rest)),
     }
 }

@@ -28,10 +28,10 @@ impl<'t, 's> Reader<'t, 's> {
     }
 
     // The next node that is complete, or none at the end of the text.
-    pub(crate) fn next(&mut self) -> Result<Option<Done>, Refusal>
+    pub(crate) fn next_node(&mut self) -> Result<Option<Done>, Refusal>
         ensures { Yields self.old result self.new }
     {
-        while let Some(piece) = self.cutter.next() {
+        while let Some(piece) = self.cutter.next_item() {
             if let Some(done) = self.nest.take(piece)? {
                 return Ok(Some(done));
             }

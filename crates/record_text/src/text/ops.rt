@@ -1,10 +1,11 @@
 ghost use Rattle.std.specs.Prelude.{◌≡◌, []};
 ghost use Rattle.record_text.specs.Laying.{Agreed, Laid, Settled, entries_of, refusal_of, text_of};
-ghost use Rattle.record_text.specs.Parts.{part_of, place_of, span};
+ghost use Rattle.record_text.specs.Parts.{part_of, place_of};
 
 use super::TextRecord;
 use crate::entry::Entry;
 use crate::opening::compared;
+use lexical::part;
 use refusals::Refusal;
 
 // The front of the list that has an entry for each node of the text.
@@ -18,20 +19,16 @@ fn agreed<'n>(text: &[u8], list: &'n [Entry]) -> Result<&'n [Entry], Refusal>
     Ok(&list[..nodes])
 }
 
-// The bytes from one place to another, as far as the text goes.
-fn span(text: &[u8], from: usize, to: usize) -> &[u8]
-    ensures { result.now ≡ span text.now from to }
-{
-    text.get(from..to.min(text.len())).unwrap_or_default()
-}
-
 // The part of the text that node n of the list takes up, and its place.
 fn part_at<'t>(text: &'t [u8], list: &[Entry], n: usize) -> (&'t [u8], usize)
     ensures part { result.0.now ≡ part_of text.now list.now n }
     ensures place { result.1 ≡ place_of text.now list.now n }
 {
     match list.get(n) {
-        Some(entry) => (span(text, entry.start, entry.end), entry.start),
+        Some(entry) => {
+            let len = entry.end.saturating_sub(entry.start);
+            (part(text, entry.start, len), entry.start)
+        }
         None => (&[], text.len()),
     }
 }

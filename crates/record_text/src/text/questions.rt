@@ -7,14 +7,14 @@ ghost use Rattle.std.specs.Str.{bytes_eq};
 
 use super::TextRecord;
 use crate::entry::Entry;
-use crate::names::bytes_after;
+use lexical::{after, part};
 use records::Record;
 
 // Whether the entry tells the name.
 fn tells_name(text: &[u8], entry: Entry, name: &[u8]) -> bool
     ensures { result ≡ bytes_eq (text_node text.now entry).name name.now }
 {
-    bytes_after(text, entry.start, entry.name_len) == name
+    part(after(text, entry.start), 0, entry.name_len) == name
 }
 
 impl<'t, 'n> TextRecord<'t, 'n> {

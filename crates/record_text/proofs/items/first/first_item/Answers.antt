@@ -1,7 +1,8 @@
 use Rattle.std.proofs.Common.{◌≡◌, ◌∷◌, ap, sym, ◌∙◌, subst, length, take, drop, ◌-◌}
+use Rattle.lexical.specs.Numbers.{figure_kind}
 use Rattle.record_text.specs.Cutting.{First}
 use Rattle.record_text.proofs.Lex.{less_is}
-use Rattle.record_text.proofs.Firsts.{front_back, kind_role, kind_figure, kind_stray}
+use Rattle.record_text.proofs.Firsts.{front_back, kind_role, kind_stray}
 use Rattle.record_text.specs.Items.{of_kind}
 use Rattle.std.specs.Prelude.{slice_index}
 use Rattle.record_text.proofs.items.first.first_item.Goals as goal
@@ -18,13 +19,10 @@ returns-in-Less c =
     let e : 60 ∷ take (length t - 1) (drop 1 t) ≡ t = ap (λ x. x ∷ take (length t - 1) (drop 1 t)) (sym b) ∙ front_back t c.in-len1-up.len_at_least in
     subst (λ l. First l c.tag.result.0 c.tag.result.1.now) e c.tag.ensures
 
-pub returns-in-Digit : goal.returns-in-Digit
-returns-in-Digit c =
-    let t = c.args.text.now in
-    c.number.ensures (kind_figure (slice_index t 0) c.kind_of.result c.kind_of.ensures c.in-Digit.is)
-
 pub returns-in_default-kind_of : goal.returns-in_default-kind_of
-returns-in_default-kind_of c =
+returns-in_default-kind_of c = c.number.ensures (ap figure_kind (sym c.kind_of.ensures) ∙ sym c.if-in_number.ensures)
+
+pub returns-in_default-2 : goal.returns-in_default-2
+returns-in_default-2 c =
     let t = c.args.text.now in
-    let x = c.in_default-kind_of in
-    (front_back t c.in-len1-up.len_at_least, kind_stray (slice_index t 0) c.kind_of.result c.kind_of.ensures x.not-Digit x.not-Hyphen x.not-Point x.not-Less x.not-Blank)
+    (front_back t c.in-len1-up.len_at_least, kind_stray (slice_index t 0) c.kind_of.result c.kind_of.ensures c.if-in_number.ensures c.in_default-2.not-Less c.in_default-2.not-Blank)

@@ -1,6 +1,6 @@
 use Rattle.std.proofs.Common.{◌≡◌, ◌≤◌}
 use Rattle.record_text.specs.Yielding.{pending, coming, bytes_left}
-use Rattle.record_text.proofs.reader.Reader.next.Given as goal
+use Rattle.record_text.proofs.reader.Reader.next_node.Given as goal
 
 abbrev pub invariant-loop-piece : goal.invariant-loop-piece
 invariant-loop-piece l = record {
