@@ -12,14 +12,12 @@ use Rattle.lexical.specs.declared.kinds.Kind.{Kind}
 use Rattle.lexical.specs.declared.kinds.Kind.TheVariants.{Letter, Digit, Hyphen, Point, Less, Greater, Slash, Blank, Other}
 use Rattle.lexical.specs.Kinds.{kind}
 use Rattle.lexical.specs.Numbers.{figure_kind}
-use Rattle.record_text.specs.declared.items.Item.{Item as Told}
 use Rattle.record_text.specs.declared.items.Placed.{Placed}
 use Rattle.record_text.specs.declared.items.Cutter.{Cutter}
-use Rattle.record_text.specs.declared.items.Item.TheVariants.{Gap, Tag, Number, Stray, Lone}
 use Rattle.record_text.specs.Grammar.{Item, gap, tag, num, stray, lone, bytes, text}
 use Rattle.record_text.specs.Items.{greater, of_kind, Stray as StrayRole, role, Figures, NoGreater, NotEmpty, Quits, Ends}
 use Rattle.record_text.specs.Machine.{items}
-use Rattle.record_text.specs.Cutting.{item_of, TagSpans, no_figure}
+use Rattle.record_text.specs.Cutting.{item_of, no_figure}
 use Rattle.record_text.specs.Cutter.{from, left, Cuts}
 use Rattle.record_text.proofs.Lex.{greater_is, cut_lex, items_text, items_cut}
 use Rattle.record_text.proofs.Cuts.{figure_role, role_figure}
@@ -180,13 +178,3 @@ module _ (c c' : Cutter) (x : Placed) (h : Cuts c (Some x) c') where
 
   pub cut_from : from c + length (bytes cut_item) ≡ from c'
   cut_from = let e = cut_end in omega (arith, h.2, h.3)
-
-  pub tag_spans : TagSpans x.start x.item x.end
-  tag_spans = go x.item cut_end
-    where
-      go : (i : Told) → x.start + length (bytes (item_of c.rest.now i)) ≡ x.end → TagSpans x.start i x.end
-      go Gap e = tt
-      go (Tag w) e = e
-      go (Number w) e = tt
-      go Stray e = tt
-      go Lone e = tt

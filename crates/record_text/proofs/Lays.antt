@@ -15,7 +15,7 @@ use Rattle.record_text.specs.Pass.{accepts, completed, read}
 use Rattle.record_text.specs.Agree.{Agrees}
 use Rattle.record_text.specs.Turns.{outcome}
 use Rattle.record_text.specs.Texts.{text_node}
-use Rattle.record_text.specs.Laying.{Begins, text_of, entries_of, RecordsRead, Differs, Unlaid, misfits, limits, Laid, refusal_of, Settled, Tied}
+use Rattle.record_text.specs.Laying.{text_of, entries_of, RecordsRead, Differs, Unlaid, misfits, limits, Laid, refusal_of, Settled, Tied}
 use Rattle.record_text.proofs.Read.{read_answers}
 use Rattle.record_text.proofs.Only.{only}
 use Rattle.record_text.proofs.Unique.{one_list}
@@ -139,8 +139,3 @@ pub laid_entries : (t : List ℕ) (l : List Entry) (r : Result (Unit {0}) Refusa
     take (length es) l ≡ es → (text_of y ≡ t) × (entries_of y ≡ es)
 laid_entries t l (Ok u) x y (fs, q, k, a, b) s es r e = (a, b ∙ one_list t fs es (q.0, q.1.0, q.2) (r.0, r.1.0, r.2))
 laid_entries t l (Err f) x y h s es r e = let q : ◌≡◌ {A = Option Refusal} (Some f) None = s.0 (es, r, e) in unlike cc
-
--- where it does not, the record is as it was
-pub laid_nothing : (t : List ℕ) (l : List Entry) (r : Result (Unit {0}) Refusal) (x y : TextRecord) → Laid t l r x y → (Begins t l → ⊥) → y ≡ x
-laid_nothing t l (Ok u) x y (fs, q, k, a, b) n = absurd (n (fs, q, k))
-laid_nothing t l (Err f) x y h n = h.1

@@ -17,4 +17,3 @@ pub mod Opens
 pub mod Openings
 pub mod Agreeing
 pub mod Lays
-pub mod TextNodes

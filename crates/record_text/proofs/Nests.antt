@@ -3,8 +3,7 @@ use Rattle.std.specs.Prelude.{Ok}
 use Rattle.record_text.specs.Turns.{ruling, Admitted}
 use Rattle.std.proofs.Common.{◌≡◌, ℕ, ◌<◌, Bool, true, false, cond, ltb, leb, List, [], ◌∷◌, ◌++◌, length, ℤ, sym, refl, ap, ◌∙◌, arith, length-append}
 use mathlib.Core.Option.{Option, some, none}
-use Rattle.std.proofs.lemmas.List.{nil_from_length}
-use Rattle.std.proofs.lemmas.Bool.{leb-false, ltb-false, lt-ltb}
+use Rattle.std.proofs.lemmas.Bool.{leb-false, lt-ltb}
 use Rattle.record_text.specs.declared.entry.Entry.{Entry}
 use Rattle.record_text.specs.declared.nest.OpenTag.{OpenTag}
 use Rattle.record_text.specs.declared.nest.Held.TheVariants as code
@@ -39,13 +38,7 @@ module _ (p : ℕ) (n : ℕ) (os : List OpenTag) (h : code.the_data) (a : Admitt
   pub admitted : (s s' : Shape) → s ≡ s' → ruling p (full n (length (ups os))) (free (held_of h) (some s)) ≡ Ok s'
   admitted s s' e = ap (λ b. ruling p b (free (held_of h) (some s))) a.0 ∙ (ap (ruling p false) (a.1 (some s)) ∙ ap Ok e)
 
--- a closing tag where no element is open
-pub close_empty : (w : List ℕ) (n : ℕ) (os : List OpenTag) → false ≡ ltb 0 (length os) → close w n (ups os) ≡ none
-close_empty w n os e =
-    let z : length os ≡ 0 = omega (arith, ltb-false 0 (length os) (sym e)) in
-    ap (λ l. close w n (ups l)) (nil_from_length os z)
-
--- and where one is
+-- a closing tag, where an element is open
 module _ (w : List ℕ) (n : ℕ) (os os' : List OpenTag) (o : OpenTag) (e : os ≡ os' ++ o ∷ []) where
   on_top : ups os ≡ open_of o ∷ ups os'
   on_top = ap ups e ∙ ups_push os' o

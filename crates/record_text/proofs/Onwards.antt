@@ -1,23 +1,19 @@
 -- One step of the reader, by the item that ended with it, and its end.
 use Rattle.std.specs.Prelude.{Some, Ok, Err, Option as Maybe, Result}
 use Rattle.std.specs.Option.{option_to_list}
-use Rattle.std.proofs.Common.{◌≡◌, ℕ, ◌+◌, ◌<◌, Bool, true, false, List, [], ◌∷◌, ◌++◌, length, refl, ap, ◌∙◌, subst, arith}
+use Rattle.std.proofs.Common.{◌≡◌, ℕ, ◌+◌, Bool, true, false, List, ◌∷◌, ◌++◌, length, ap, ◌∙◌, subst}
 use mathlib.Core.Option.{Option, some, none}
-use Rattle.std.proofs.lemmas.List.{nil_from_length}
 use Rattle.refusals.specs.declared.Refusal.{Refusal}
-use Rattle.record_text.specs.declared.nest.OpenTag.{OpenTag}
 use Rattle.record_text.specs.declared.items.Placed.{Placed}
 use Rattle.record_text.specs.declared.items.Cutter.{Cutter}
 use Rattle.record_text.specs.Cutting.{item_of}
 use Rattle.record_text.specs.Cutter.{from, left, Cuts}
 use Rattle.record_text.proofs.Firsts.{cut_left, cut_from}
 use Rattle.record_text.specs.Grammar.{Item, bytes}
-use Rattle.record_text.specs.Reading.{Outcome, accepted, misfit}
-use Rattle.record_text.specs.Machine.{Open, Shape, move}
-use Rattle.record_text.specs.Nest.{ups}
-use Rattle.record_text.specs.Pass.{Done, over, decide, at_end, check, done_by, done_after, done}
+use Rattle.record_text.specs.Reading.{Outcome}
+use Rattle.record_text.specs.Machine.{Shape, move}
+use Rattle.record_text.specs.Pass.{Done, over, decide, check, done_by, done_after, done}
 use Rattle.record_text.specs.Turns.{outcome, ruling, Went}
-use Rattle.record_text.proofs.Nests.{ups_length}
 
 -- a ruling decides what is read
 module _ (p : ℕ) (f : Shape → Outcome) where
@@ -60,14 +56,3 @@ module _ (c c' : Cutter) (x : Placed) (h : Cuts c (Some x) c') (s s' : Shape) wh
 
   pub step_off : (f : Refusal) → Went x.start s (item_of c.rest.now x.item) s' (Err f) → outcome (check (from c) s (left c)) ≡ Err f
   step_off f w = stops (from c) s (item_of c.rest.now x.item) (left c') (left c) (cut_left c c' x h) (from c') (cut_from c c' x h) s' f (at_from (Err f) w)
-
--- whether an element is open at the end
-pub none_open : (os : List OpenTag) (p n : ℕ) → length os ≡ 0 → at_end p n (ups os) ≡ accepted n
-none_open os p n e = ap (λ l. at_end p n (ups l)) (nil_from_length os e)
-
-some_open : (p n : ℕ) (up : List Open) → 0 < length up → at_end p n up ≡ misfit p
-some_open p n [] h = absurd (omega arith)
-some_open p n (o ∷ up) h = refl
-
-pub still_open : (os : List OpenTag) (p n : ℕ) → 0 < length os → at_end p n (ups os) ≡ misfit p
-still_open os p n h = some_open p n (ups os) (omega (arith, ups_length os))

@@ -10,7 +10,6 @@ use Rattle.record_text.specs.Reading.{slash_first, slash_last}
 use Rattle.record_text.specs.declared.tags.Tag.{Tag as Told}
 use Rattle.record_text.specs.declared.tags.Tag.TheVariants.{Opening, Closing, Alone}
 use Rattle.record_text.specs.Tags.{named_as, told, name_in, Slashed}
-use Rattle.record_text.proofs.Sound.{TagIs, tag_is}
 use Rattle.record_text.proofs.Complete.{no_word}
 use Rattle.lexical.specs.Words.{word}
 use lib.Seq.{get_or_at}
@@ -50,10 +49,6 @@ slashed bs x b h k = told_if b x ∙ sym (go x h k)
     go (Opening w) h k = subst (λ l. tag_of l ≡ cond b (opens w.now) bad) h.2 (slashed_opening w.now b k (ap slash_first h.2 ∙ h.0) (ap slash_last h.2 ∙ h.1))
     go (Closing w) h k = subst (λ l. tag_of l ≡ cond b (closes w.now) bad) h (slashed_closing w.now b k)
     go (Alone w) h k = subst (λ l. tag_of l ≡ cond b (whole w.now) bad) h.1 (slashed_alone w.now b k (ap slash_first h.1 ∙ h.0))
-
--- the name of an opening tag is its body
-pub opening_body : (bs w : List ℕ) → tag_of bs ≡ opens w → w ≡ bs
-opening_body bs w e = sym (subst (TagIs bs) e (tag_is bs)).0
 
 pub went_as : (p q : ℕ) (s s' : Shape) (bs : List ℕ) (x : Tag) (r : Result (Maybe Done) Refusal) → tag_of bs ≡ x → p + length (bytes (tag bs)) ≡ q → WentTag p q s x s' r → Went p s (tag bs) s' r
 went_as p q s s' bs x r e f w = subst (λ y. WentTag p (p + length (bytes (tag bs))) s y s' r) (sym e) (subst (λ n. WentTag p n s x s' r) (sym f) w)

@@ -1,5 +1,4 @@
 use Rattle.std.proofs.Common.{◌≡◌, ◌∷◌, ap, sym, ◌∙◌, subst, length, take, drop, ◌-◌}
-use Rattle.lexical.specs.Numbers.{figure_kind}
 use Rattle.record_text.specs.Cutting.{First}
 use Rattle.record_text.proofs.Lex.{less_is}
 use Rattle.record_text.proofs.Firsts.{front_back, kind_role, kind_stray}
@@ -18,9 +17,6 @@ returns-in-Less c =
     let b = less_is (slice_index t 0) (kind_role (slice_index t 0) c.kind_of.result c.kind_of.ensures ∙ ap of_kind c.in-Less.is) in
     let e : 60 ∷ take (length t - 1) (drop 1 t) ≡ t = ap (λ x. x ∷ take (length t - 1) (drop 1 t)) (sym b) ∙ front_back t c.in-len1-up.len_at_least in
     subst (λ l. First l c.tag.result.0 c.tag.result.1.now) e c.tag.ensures
-
-pub returns-in_default-kind_of : goal.returns-in_default-kind_of
-returns-in_default-kind_of c = c.number.ensures (ap figure_kind (sym c.kind_of.ensures) ∙ sym c.if-in_number.ensures)
 
 pub returns-in_default-2 : goal.returns-in_default-2
 returns-in_default-2 c =

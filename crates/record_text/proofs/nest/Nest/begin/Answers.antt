@@ -1,16 +1,10 @@
-use Rattle.std.proofs.Common.{◌≡◌, ◌+◌, true, cond, [], ◌∷◌, ◌++◌, length, sym, refl, ap, ◌∙◌, arith}
+use Rattle.std.proofs.Common.{◌≡◌, ◌+◌, true, cond, [], ◌∷◌, ◌++◌, sym, refl, ap, ◌∙◌}
 use Rattle.lent.specs.Stacks.{held, room}
 use Rattle.record_text.specs.declared.nest.OpenTag.{OpenTag}
 use Rattle.record_text.specs.Machine.{shape, blanks}
 use Rattle.record_text.specs.Nest.{ups}
-use Rattle.record_text.proofs.Nests.{ups_push, below_most, has_room, admitted}
+use Rattle.record_text.proofs.Nests.{ups_push, has_room, admitted}
 use Rattle.record_text.proofs.nest.Nest.begin.Goals as goal
-
-pub overflow_add-self : goal.overflow_add-self
-overflow_add-self c =
-    let s = c.args.self.now in
-    let l = below_most s.nodes (length (ups (held s.tags))) c.in_ok-admit.ensures.0 in
-    omega arith
 
 pub returns : goal.returns
 returns c = λ q.
