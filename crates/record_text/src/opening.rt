@@ -18,11 +18,11 @@ fn counted(text: &[u8]) -> Result<usize, Refusal>
 {
     let mut slots = [NO_TAG; MOST_LEVELS];
     let mut reader = Reader::over(text, &mut slots);
-    while let Some(_) = reader.next_node()? {}
+    while reader.next_node()?.is_some() {}
     Ok(reader.nodes())
 }
 
-// Writes the entry of a node that lies in the list.
+// Writes the entry of a node that lies in the list. (By index, since nothing is known of the elements after `get_mut`.)
 fn put(list: &mut [Entry], node: usize, entry: Entry)
     ensures { list.new ≡ slice_set list.old node entry }
 {
@@ -46,10 +46,11 @@ fn fill(text: &[u8], list: &mut [Entry]) -> Result<(), Refusal>
 fn has(list: &[Entry], node: usize, entry: Entry) -> bool
     ensures { Decides result (Has list.now node entry) }
 {
-    node < list.len() && list[node] == entry
+    list.get(node) == Some(&entry)
 }
 
-// How many nodes the text has, if the list has the entry of each.
+// How many nodes the text has, if the list has the entry of each. It reads on where an entry differs, since an item at fault decides
+// before that.
 pub(crate) fn compared(text: &[u8], list: &[Entry]) -> Result<Option<usize>, Refusal>
     ensures { Compared text.now list.now result }
 {

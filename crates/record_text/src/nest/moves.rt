@@ -92,41 +92,43 @@ impl<'t, 's> Nest<'t, 's> {
     }
 
     // An empty tag.
-    fn hollow(&mut self, name: &[u8], start: usize, end: usize) -> Result<Option<Done>, Refusal>
-        ensures { WentTag start end (shape_of self.old) (whole name.now) (shape_of self.new) result }
+    fn hollow(&mut self, name: &[u8], at: Placed<'t>) -> Result<Option<Done>, Refusal>
+        ensures { WentTag at.entry.start at.entry.end (shape_of self.old) (whole name.now) (shape_of self.new) result }
     {
-        self.admit(start)?;
+        self.admit(at.start)?;
         let node = self.nodes;
         self.nodes = node + 1;
         self.held = Held::Elements;
-        let entry = Entry::new(start, end, name.len(), self.tags.len(), None);
+        let depth = self.tags.len();
+        let entry = Entry::new(at.start, at.end, name.len(), depth, None);
         Ok(Some((node, entry)))
     }
 
-    // A closing tag, from `place` to `end`.
-    fn close(&mut self, name: &[u8], place: usize, end: usize) -> Result<Option<Done>, Refusal>
-        ensures { WentTag place end (shape_of self.old) (closes name.now) (shape_of self.new) result }
+    // A closing tag.
+    fn close(&mut self, name: &[u8], at: Placed<'t>) -> Result<Option<Done>, Refusal>
+        ensures { WentTag at.entry.start at.entry.end (shape_of self.old) (closes name.now) (shape_of self.new) result }
     {
-        let tag = self.tags.pop().ok_or(Refusal::Misfit(place))?;
+        let tag = self.tags.pop().ok_or(Refusal::Misfit(at.start))?;
         if !is_named(tag, name) {
-            return Err(Refusal::Misfit(place));
+            return Err(Refusal::Misfit(at.start));
         }
         let value = value_of(self.held);
         self.held = Held::Elements;
-        let entry = Entry::new(tag.place, end, name.len(), self.tags.len(), value);
+        let depth = self.tags.len();
+        let entry = Entry::new(tag.place, at.end, name.len(), depth, value);
         Ok(Some((tag.node, entry)))
     }
 
     // A tag by its body.
-    fn tag(&mut self, body: &'t [u8], start: usize, end: usize) -> Result<Option<Done>, Refusal>
-        requires { start + length (bytes (tag body.now)) ≡ end }
-        ensures { Went start (shape_of self.old) (tag body.now) (shape_of self.new) result }
+    fn tag(&mut self, body: &'t [u8], at: Placed<'t>) -> Result<Option<Done>, Refusal>
+        requires { at.start + length (bytes (tag body.now)) ≡ at.end }
+        ensures { Went at.entry.start (shape_of self.old) (tag body.now) (shape_of self.new) result }
     {
         match tag_of(body) {
-            Some(Tag::Opening(name)) => self.begin(name, start),
-            Some(Tag::Closing(name)) => self.close(name, start, end),
-            Some(Tag::Alone(name)) => self.hollow(name, start, end),
-            None => Err(Refusal::Misfit(start)),
+            Some(Tag::Opening(name)) => self.begin(name, at.start),
+            Some(Tag::Closing(name)) => self.close(name, at),
+            Some(Tag::Alone(name)) => self.hollow(name, at),
+            None => Err(Refusal::Misfit(at.start)),
         }
     }
 
@@ -138,7 +140,7 @@ impl<'t, 's> Nest<'t, 's> {
         let start = piece.start;
         match piece.item {
             Item::Gap => Ok(None),
-            Item::Tag(body) => self.tag(body, start, piece.end),
+            Item::Tag(body) => self.tag(body, piece),
             Item::Number(digits) => self.number(digits, start),
             Item::Stray | Item::Lone => Err(Refusal::Misfit(start)),
         }

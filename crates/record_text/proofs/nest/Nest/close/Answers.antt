@@ -9,14 +9,14 @@ pub returns-then-not-is_named : goal.returns-then-not-is_named
 returns-then-not-is_named c =
     let s = c.args.self.now in
     let e : held s.tags ≡ held c.pop.new.self ++ c.in_ok-tag.tag ∷ [] = search rules in
-    ap (ruling c.args.place false) (close_tag c.args.name.now s.nodes (held s.tags) _ c.in_ok-tag.tag e false c.if-not-is_named.ensures)
+    ap (ruling c.args.at.start false) (close_tag c.args.name.now s.nodes (held s.tags) _ c.in_ok-tag.tag e false c.if-not-is_named.ensures)
 
 pub returns : goal.returns
 returns c =
     let w = c.args.name.now in
     let s = c.args.self.now in
     let e : held s.tags ≡ held c.pop.new.self ++ c.in_ok-tag.tag ∷ [] = search rules in (
-      ap (ruling c.args.place false) (close_tag w s.nodes (held s.tags) _ c.in_ok-tag.tag e true c.if-not-is_named.ensures),
-      close_done w s.nodes (held s.tags) _ c.in_ok-tag.tag e c.args.end (held_of s.held) c.len.result c.new-entry.result c.len.ensures
-          (c.new-entry.ensures ∙ c.value_of-value.ensures c.in_ok-tag.tag.place c.args.end (length w) c.len.result),
+      ap (ruling c.args.at.start false) (close_tag w s.nodes (held s.tags) _ c.in_ok-tag.tag e true c.if-not-is_named.ensures),
+      close_done w s.nodes (held s.tags) _ c.in_ok-tag.tag e c.args.at.end (held_of s.held) c.len-depth.result c.new-entry.result c.len-depth.ensures
+          (c.new-entry.ensures ∙ c.value_of-value.ensures c.in_ok-tag.tag.place c.args.at.end (length w) c.len-depth.result),
     )

@@ -7,6 +7,6 @@ use Rattle.record_text.proofs.nest.Nest.hollow.Goals as goal
 pub returns : goal.returns
 returns c =
     let s = c.args.self.now in (
-      admitted c.args.start s.nodes (held s.tags) s.held c.in_ok-admit.ensures _ _ refl,
-      done_same s.nodes _ _ (ap (branch c.args.start c.args.end (length c.args.name.now)) (ups_length (held s.tags) ∙ sym c.len.ensures) ∙ sym c.new-entry.ensures),
+      admitted c.args.at.start s.nodes (held s.tags) s.held c.in_ok-admit.ensures _ _ refl,
+      done_same s.nodes _ _ (ap (branch c.args.at.start c.args.at.end (length c.args.name.now)) (ups_length (held s.tags) ∙ sym c.len-depth.ensures) ∙ sym c.new-entry.ensures),
     )
