@@ -22,7 +22,8 @@ impl<'t> Cutter<'t> {
         self.len - self.rest.len()
     }
 
-    // The next item, unless the text is at its end.
+    // The next item, unless the text is at its end. (No `Iterator`: the reader takes an item at a time and comes back for the rest, so
+    // no `for` would stand over it.)
     pub(crate) fn next_item(&mut self) -> Option<Placed<'t>>
         ensures { Cuts self.old result self.new }
     {

@@ -1,11 +1,10 @@
 ghost use Rattle.std.specs.Prelude.{◌≡◌, ℕ, ◌+◌, List, length};
 ghost use Rattle.lent.specs.Stacks.{held};
 ghost use Rattle.record_text.specs.Cutting.{TagSpans, item_of};
-ghost use Rattle.record_text.specs.Entries.{entry};
 ghost use Rattle.record_text.specs.Grammar.{bytes, num, tag};
 ghost use Rattle.record_text.specs.Machine.{closes, opens, same, whole};
 ghost use Rattle.record_text.specs.Nest.{held_of, shape_of};
-ghost use Rattle.record_text.specs.Pass.{entry_of, full, start as first};
+ghost use Rattle.record_text.specs.Pass.{full, start as first, value_in};
 ghost use Rattle.record_text.specs.Turns.{Admitted, Ended, Went, WentTag};
 
 use super::{Done, Held, Nest, OpenTag};
@@ -26,7 +25,7 @@ fn is_named(tag: OpenTag<'_>, name: &[u8]) -> bool
 
 // The value of an element that holds this.
 fn value_of(held: Held) -> Option<i32>
-    ensures { (p q n d : ℕ) → entry p q n d result ≡ entry_of p (held_of held) q n d }
+    ensures { result ≡ value_in (held_of held) }
 {
     match held {
         Held::Value(value) => Some(value),

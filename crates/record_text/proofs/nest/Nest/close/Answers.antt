@@ -1,5 +1,6 @@
 use Rattle.std.proofs.Common.{◌≡◌, true, false, [], ◌∷◌, ◌++◌, ap, length, ◌∙◌, rules}
 use Rattle.lent.specs.Stacks.{held}
+use Rattle.record_text.specs.Entries.{entry}
 use Rattle.record_text.specs.Nest.{held_of}
 use Rattle.record_text.specs.Turns.{ruling}
 use Rattle.record_text.proofs.Nests.{close_tag, close_done}
@@ -18,5 +19,5 @@ returns c =
     let e : held s.tags ≡ held c.pop.new.self ++ c.in_ok-tag.tag ∷ [] = search rules in (
       ap (ruling c.args.at.start false) (close_tag w s.nodes (held s.tags) _ c.in_ok-tag.tag e true c.if-not-is_named.ensures),
       close_done w s.nodes (held s.tags) _ c.in_ok-tag.tag e c.args.at.end (held_of s.held) c.len-depth.result c.new-entry.result c.len-depth.ensures
-          (c.new-entry.ensures ∙ c.value_of-value.ensures c.in_ok-tag.tag.place c.args.at.end (length w) c.len-depth.result),
+          (c.new-entry.ensures ∙ ap (entry c.in_ok-tag.tag.place c.args.at.end (length w) c.len-depth.result) c.value_of-value.ensures),
     )
