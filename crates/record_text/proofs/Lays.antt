@@ -13,9 +13,10 @@ use Rattle.record_text.specs.Reading.{Outcome, accepted, misfit, limit, Answer, 
 use Rattle.record_text.specs.Opening.{Reads}
 use Rattle.record_text.specs.Pass.{accepts, completed, read}
 use Rattle.record_text.specs.Agree.{Agrees}
+use Rattle.record_text.specs.Passing.{Tied}
 use Rattle.record_text.specs.Turns.{outcome}
 use Rattle.record_text.specs.Texts.{text_node}
-use Rattle.record_text.specs.Laying.{text_of, entries_of, RecordsRead, Differs, Unlaid, misfits, limits, Laid, refusal_of, Settled, Tied}
+use Rattle.record_text.specs.Laying.{text_of, entries_of, RecordsRead, Differs, Unlaid, misfits, limits, Laid, refusal_of, Settled}
 use Rattle.record_text.proofs.Read.{read_answers}
 use Rattle.record_text.proofs.Only.{only}
 use Rattle.record_text.proofs.Unique.{one_list}

@@ -1,17 +1,12 @@
 -- What `lay` answers to a text and a list, and what the record is afterwards.
-use Rattle.std.specs.Prelude.{◌≡◌, ℕ, ◌≤◌, true, ◌⊎◌, List, [], ◌∷◌, length, take, Some, None, Ok, Err, Option, Result, ◌≢◌}
-use Rattle.std.specs.Borrow.{Bor}
+use Rattle.std.specs.Prelude.{◌≡◌, ℕ, ◌⊎◌, List, [], ◌∷◌, length, take, Some, None, Ok, Err, Option, Result, ◌≢◌}
 use Rattle.refusals.specs.declared.Refusal.{Refusal}
 use Rattle.refusals.specs.declared.Refusal.TheVariants as refusal
 use Rattle.refusals.specs.Refusals.{number, places}
-use Rattle.records.specs.Limits.{most_nodes}
-use Rattle.records.specs.Nodes.{shaped}
 use Rattle.record_text.specs.declared.entry.Entry.{Entry}
 use Rattle.record_text.specs.declared.text.TextRecord.{TextRecord}
 use Rattle.record_text.specs.Reading.{Misfit, Unclosed, Limit}
 use Rattle.record_text.specs.Opening.{Reads}
-use Rattle.record_text.specs.Pass.{accepts, read, entries}
-use Rattle.record_text.specs.Texts.{text_nodes}
 
 -- the text and the entries that a record holds
 abbrev pub text_of : TextRecord → List ℕ
@@ -53,15 +48,3 @@ Settled t l o =
     × ((p : ℕ) → Misfit t p ⊎ Unclosed t p → o ≡ Some (refusal.Misfit p))
     × ((p : ℕ) → Limit t p → o ≡ Some (refusal.Limit p))
     × (Differs t l → o ≡ Some refusal.List)
-
--- by equations, as a record keeps it: so many nodes are accepted, and a pass would write these entries
-pub record Tied (t : List ℕ) (es : List Entry) : Type 0 where
-  pub fine : accepts (read t) (length es) ≡ true
-  pub same : entries t es ≡ es
-  pub few : length es ≤ most_nodes
-  pub shape : shaped 0 (text_nodes t es) ≡ true
-
--- the answer before the record is set
-abbrev pub Agreed : List ℕ → List Entry → Result (Bor (List Entry)) Refusal → Type 0
-Agreed t l (Ok es) = Tied t es.now × Reads t es.now × (take (length es.now) l ≡ es.now)
-Agreed t l (Err e) = Unlaid t l (number e) (places e)

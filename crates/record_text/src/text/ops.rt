@@ -1,5 +1,6 @@
 ghost use Rattle.std.specs.Prelude.{◌≡◌, []};
-ghost use Rattle.record_text.specs.Laying.{Agreed, Laid, Settled, entries_of, refusal_of, text_of};
+ghost use Rattle.record_text.specs.Laying.{Laid, Settled, entries_of, refusal_of, text_of};
+ghost use Rattle.record_text.specs.Passing.{Agreed};
 ghost use Rattle.record_text.specs.Parts.{part_of, place_of};
 
 use super::TextRecord;

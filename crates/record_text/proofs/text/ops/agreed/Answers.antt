@@ -1,6 +1,6 @@
 use Rattle.std.proofs.Common.{Ok, sym, subst}
-use Rattle.record_text.specs.Laying.{Agreed, Settled, refusal_of, differs}
-use Rattle.record_text.specs.Passing.{Compared}
+use Rattle.record_text.specs.Laying.{Settled, refusal_of, differs}
+use Rattle.record_text.specs.Passing.{Compared, Agreed}
 use Rattle.record_text.proofs.Opens.{error_from}
 use Rattle.record_text.proofs.Lays.{unlaid, settled_unlaid, differing, settled_differing, agreeing, settled_agreeing}
 use Rattle.record_text.proofs.text.ops.agreed.Goals as goal
