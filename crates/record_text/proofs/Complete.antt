@@ -75,7 +75,7 @@ word_spelled w e = (and_parts (leb (length w) longest_word) (spelled w) e).1
 pub word_all : (w : List ℕ) → word w ≡ true → all name_byte w ≡ true
 word_all w e = spelled_all w (word_spelled w e)
 
-no_word : word [] ≡ true → ⊥
+pub no_word : word [] ≡ true → ⊥
 unfolding spelled
 no_word e = false≢true (word_spelled [] e)
 

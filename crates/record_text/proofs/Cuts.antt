@@ -46,7 +46,7 @@ push_slash [] k = (slash_role, tt)
 push_slash (b ∷ w) k = (k.0, push_slash w k.1)
 
 -- the bytes of a number
-figure_role : (k : Kind) → figure_kind k ≡ true → of_kind k ≡ figure
+pub figure_role : (k : Kind) → figure_kind k ≡ true → of_kind k ≡ figure
 figure_role Letter e = absurd (false≢true e)
 figure_role Digit e = refl
 figure_role Hyphen e = refl
@@ -56,6 +56,17 @@ figure_role Greater e = absurd (false≢true e)
 figure_role Slash e = absurd (false≢true e)
 figure_role Blank e = absurd (false≢true e)
 figure_role Other e = absurd (false≢true e)
+
+pub role_figure : (k : Kind) → of_kind k ≡ figure → figure_kind k ≡ true
+role_figure Letter e = absurd (differ plain figure tt e)
+role_figure Digit e = refl
+role_figure Hyphen e = refl
+role_figure Point e = refl
+role_figure Less e = absurd (differ less figure tt e)
+role_figure Greater e = absurd (differ greater figure tt e)
+role_figure Slash e = absurd (differ plain figure tt e)
+role_figure Blank e = absurd (differ space figure tt e)
+role_figure Other e = absurd (differ plain figure tt e)
 
 all_figures : (ds : List ℕ) → all (λ b. figure_kind (kind b)) ds ≡ true → Figures ds
 unfolding role

@@ -1,22 +1,22 @@
 -- From a pass that compares to the answer of `lay`.
-use Rattle.std.proofs.Common.{◌≡◌, ℕ, Bool, true, false, ◌&&◌, leb, ◌⊎◌, List, length, take, Some, None, Ok, Err, Decides, Option, Result, sym, refl, ap, ◌∙◌, subst, arith, length-take}
+use Rattle.std.proofs.Common.{◌≡◌, ◌≤◌, ℕ, true, ◌⊎◌, List, length, take, Some, None, Ok, Err, Option, Result, sym, refl, ap, ◌∙◌, subst, arith, length-take}
 use mathlib.Core.Bool.{false≢true}
 use lib.ListN.{length-map}
-use Rattle.std.proofs.lemmas.List.{take_at}
-use Rattle.std.proofs.lemmas.Bool.{and_parts, and_from, eq-eqb, eqb-true, leb-true, le-leb}
+use Rattle.std.proofs.lemmas.List.{take_at, take_all}
+use Rattle.std.proofs.lemmas.Bool.{eq-eqb, eqb-true}
 use Rattle.refusals.specs.declared.Refusal.{Refusal}
 use Rattle.refusals.specs.declared.Refusal.TheVariants as refusal
 use Rattle.refusals.specs.Refusals.{number, places}
-use Rattle.records.specs.Nodes.{Shape}
 use Rattle.record_text.specs.declared.entry.Entry.{Entry}
 use Rattle.record_text.specs.declared.text.TextRecord.{TextRecord}
 use Rattle.record_text.specs.Reading.{Outcome, accepted, misfit, limit, Answer, Accepted, Misfit, Unclosed, Limit}
 use Rattle.record_text.specs.Opening.{Reads}
 use Rattle.record_text.specs.Pass.{accepts, completed, read}
 use Rattle.record_text.specs.Agree.{Agrees}
-use Rattle.record_text.specs.Passing.{outcome}
-use Rattle.record_text.specs.Texts.{text_node, text_nodes}
-use Rattle.record_text.specs.Laying.{Begins, text_of, entries_of, RecordsRead, Differs, Unlaid, misfits, limits, Laid, refusal_of, Settled, Agreed}
+use Rattle.record_text.specs.Passing.{Tied}
+use Rattle.record_text.specs.Turns.{outcome}
+use Rattle.record_text.specs.Texts.{text_node}
+use Rattle.record_text.specs.Laying.{text_of, entries_of, RecordsRead, Differs, Unlaid, misfits, limits, Laid, refusal_of, Settled}
 use Rattle.record_text.proofs.Read.{read_answers}
 use Rattle.record_text.proofs.Only.{only}
 use Rattle.record_text.proofs.Unique.{one_list}
@@ -39,11 +39,11 @@ accepts_is (limit p) n e = absurd (false≢true e)
 pub records_read : RecordsRead
 records_read x =
     let t = x.text.now in
-    let l = x.list.now in
-    let n = x.count in
+    let l = x.nodes.now in
+    let n : ℕ = length l in
     let a : Accepted t n = subst (Answer t) (accepts_is (read t) n x.fine) (read_answers t) in
     let r : Reads t a.1 = (a.0, a.2, a.3, a.4) in
-    let e : take n l ≡ a.1 = ap (take n) (sym x.same ∙ entries_are t a.1 l r (omega (arith, a.5, x.room))) ∙ take_at a.1 _ n a.5 in
+    let e : l ≡ a.1 = sym (take_all n l (omega arith)) ∙ (ap (take n) (sym x.same ∙ entries_are t a.1 l r (omega (arith, a.5))) ∙ take_at a.1 _ n a.5) in
     subst (Reads t) (sym e) r
 
 refused_by : (t : List ℕ) (l : List Entry) (o : Outcome) (e : Refusal) → Answer t o → ◌≡◌ {A = Result ℕ Refusal} (Err e) (outcome o) → Refused t l e
@@ -90,52 +90,49 @@ module _ (t : List ℕ) (l : List Entry) where
     no_limit : {X : Type 0} (p : ℕ) → Limit t p → X
     no_limit p a = none_at_fault (limit p) a (λ q. cc)
 
-    module _ (s : Bool) (d : Decides s (Agrees (completed t) l)) where
-      whole : true ≡ (leb n (length l) && s) → (es : List Entry) → Reads t es → length es ≡ n → take (length es) l ≡ es
-      whole e es r k =
-          let p = and_parts (leb n (length l)) s (sym e) in
-          let m = leb-true n (length l) p.0 in
-          agrees_begins t es l r (omega arith) (d.0 p.1)
+    whole : n ≤ length l → Agrees (completed t) l → (es : List Entry) → Reads t es → length es ≡ n → take (length es) l ≡ es
+    whole m a es r k = agrees_begins t es l r (omega arith) a
 
-      part : (es : List Entry) → Reads t es → take (length es) l ≡ es → (leb n (length l) && s) ≡ true
-      part es r e =
-          let k : length es ≡ n = let q : accepted n ≡ accepted (length es) = sym (counted (read t) n h) ∙ reads_accepted es r in cc in
-          let m = ap length (sym e) ∙ length-take (length es) l in
-          and_from (leb n (length l)) s (le-leb n (length l) (omega arith)) (d.1 (begins_agrees t es l r e))
+    part : (es : List Entry) → Reads t es → take (length es) l ≡ es → (n ≤ length l) × Agrees (completed t) l
+    part es r e =
+        let k : length es ≡ n = let q : accepted n ≡ accepted (length es) = sym (counted (read t) n h) ∙ reads_accepted es r in cc in
+        let m = ap length (sym e) ∙ length-take (length es) l in
+        (omega arith, begins_agrees t es l r e)
 
-      pub differing : false ≡ (leb n (length l) && s) → Differs t l
-      differing f = let r = reading in (r.0, r.1, λ e. false≢true (f ∙ part r.0 r.1 e))
+    -- the list differs from the entries
+    module _ (f : n ≤ length l → Agrees (completed t) l → ⊥) where
+      pub differing : Differs t l
+      differing = let r = reading in (r.0, r.1, λ e. let p = part r.0 r.1 e in f p.0 p.1)
 
-      pub settled_differing : false ≡ (leb n (length l) && s) → Settled t l (Some refusal.List)
-      settled_differing f = (λ x. absurd (false≢true (f ∙ part x.0 x.1 x.2)), λ p a. no_misfit p a, λ p a. no_limit p a, λ x. refl)
+      pub settled_differing : Settled t l (Some refusal.List)
+      settled_differing = (λ x. let p = part x.0 x.1 x.2 in absurd (f p.0 p.1), λ p a. no_misfit p a, λ p a. no_limit p a, λ x. refl)
 
-      pub agreeing : true ≡ (leb n (length l) && s) → Agreed t l (Ok n)
-      agreeing f =
+    -- or begins with them
+    module _ (m : n ≤ length l) (a : Agrees (completed t) l) where
+      pub agreeing : Tied t (take n l) × Reads t (take n l) × (take (length (take n l)) l ≡ take n l)
+      agreeing =
           let r = reading in
-          let e = whole f r.0 r.1 r.2 in
-          let y : take n l ≡ r.0 = ap (λ m. take m l) (sym r.2) ∙ e in
-          let m = leb-true n (length l) (and_parts (leb n (length l)) s (sym f)).0 in
-          let k = subst (λ x. Shape (text_nodes t x)) (sym y) (keeps_shape t r.0 r.1) in
-          let v = (keeps_shape t r.0 r.1).0 in
-          let w = length-map r.0 (text_node t) in (
-            record {
-              fine = accepts_yes (read t) n (counted (read t) n h);
-              room = m;
-              same = begins_same t r.0 l r.1 (omega (arith, r.2)) e;
-              few = omega (arith, r.2);
-              shape = k.1;
-            },
-            (r.0, r.1, e, y),
-          )
+          let e = whole m a r.0 r.1 r.2 in
+          let y : take n l ≡ r.0 = ap (λ k. take k l) (sym r.2) ∙ e in
+          let k = keeps_shape t r.0 r.1 in
+          let w = length-map r.0 (text_node t) in
+          let z : take (length r.0) r.0 ≡ r.0 = take_all (length r.0) r.0 (omega arith) in
+          let tied : Tied t r.0 = record {
+            fine = accepts_yes (read t) (length r.0) (counted (read t) n h ∙ ap accepted (sym r.2));
+            same = begins_same t r.0 r.0 r.1 (omega arith) z;
+            few = omega (arith, k.0);
+            shape = k.1;
+          } in
+          subst (λ x. Tied t x × Reads t x × (take (length x) l ≡ x)) (sym y) (tied, r.1, e)
 
-      pub settled_agreeing : true ≡ (leb n (length l) && s) → Settled t l None
-      settled_agreeing f = (
+      pub settled_agreeing : Settled t l None
+      settled_agreeing = (
         λ x. refl,
-        λ p a. no_misfit p a,
-        λ p a. no_limit p a,
+        λ p b. no_misfit p b,
+        λ p b. no_limit p b,
         λ x.
             let k : length x.0 ≡ n = let o : accepted n ≡ accepted (length x.0) = sym (counted (read t) n h) ∙ reads_accepted x.0 x.1 in cc in
-            absurd (x.2 (whole f x.0 x.1 k)),
+            absurd (x.2 (whole m a x.0 x.1 k)),
       )
 
 -- where the list begins with the entries, the record holds them afterwards
@@ -143,8 +140,3 @@ pub laid_entries : (t : List ℕ) (l : List Entry) (r : Result (Unit {0}) Refusa
     take (length es) l ≡ es → (text_of y ≡ t) × (entries_of y ≡ es)
 laid_entries t l (Ok u) x y (fs, q, k, a, b) s es r e = (a, b ∙ one_list t fs es (q.0, q.1.0, q.2) (r.0, r.1.0, r.2))
 laid_entries t l (Err f) x y h s es r e = let q : ◌≡◌ {A = Option Refusal} (Some f) None = s.0 (es, r, e) in unlike cc
-
--- where it does not, the record is as it was
-pub laid_nothing : (t : List ℕ) (l : List Entry) (r : Result (Unit {0}) Refusal) (x y : TextRecord) → Laid t l r x y → (Begins t l → ⊥) → y ≡ x
-laid_nothing t l (Ok u) x y (fs, q, k, a, b) n = absurd (n (fs, q, k))
-laid_nothing t l (Err f) x y h n = h.1

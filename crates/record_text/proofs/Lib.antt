@@ -10,13 +10,10 @@ pub mod Unique
 pub mod Shapes
 pub mod Tells
 pub mod TagForms
-pub mod Steps
-pub mod Keys
 pub mod Nests
+pub mod Firsts
 pub mod Onwards
-pub mod Endings
 pub mod Opens
 pub mod Openings
 pub mod Agreeing
 pub mod Lays
-pub mod TextNodes

@@ -7,7 +7,7 @@ use Rattle.record_text.specs.declared.entry.Entry.{Entry}
 use Rattle.record_text.specs.Reading.{Outcome, accepted, misfit, limit, Answer, Accepted}
 use Rattle.record_text.specs.Pass.{start, read, done, written, entries}
 use Rattle.record_text.specs.Opening.{Refuses, misfits, limits, short, Opened}
-use Rattle.record_text.specs.Passing.{outcome}
+use Rattle.record_text.specs.Turns.{outcome}
 use Rattle.record_text.proofs.Read.{read_answers}
 use Rattle.record_text.proofs.Only.{items_are}
 use Rattle.record_text.proofs.Fill.{content_fill}
@@ -19,9 +19,9 @@ pub err_same : (e f : Refusal) → ◌≡◌ {A = Result ℕ Refusal} (Err e) (E
 err_same e f h = cc
 
 -- `?` hands the refusal on as it is
-pub err_from : (r : Result ℕ Refusal) (e : Refusal) → IsErrAnd r (λ f. f ≡ e) → r ≡ Err e
-err_from (Ok n) e h = absurd h
-err_from (Err f) e h = ap Err h
+pub error_from : {A : Type 0} (r : Result A Refusal) (e : Refusal) → IsErrAnd r (λ f. f ≡ e) → r ≡ Err e
+error_from (Ok n) e h = absurd h
+error_from (Err f) e h = ap Err h
 
 abbrev Refused : List ℕ → ℕ → Refusal → Type 0
 Refused t m e = Refuses t m (number e) (places e)

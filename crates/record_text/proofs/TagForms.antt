@@ -1,72 +1,54 @@
 -- The forms of a tag, and what its reading does.
-use Rattle.std.proofs.Common.{◌≡◌, ℕ, ◌+◌, ◌-◌, ◌<◌, ◌≤◌, List, [], ◌∷◌, length, take, drop, sym, refl, ap, ◌∙◌, subst, arith, length-append, length-drop, length-take-le}
-use Rattle.std.proofs.lemmas.List.{take_all}
-use Rattle.record_text.specs.declared.tags.TagForm.{TagForm}
-use Rattle.record_text.specs.declared.tags.TagForm.TheVariants.{Opening, Closing, Alone, Bad}
-use Rattle.record_text.specs.declared.turn.Turn.{Turn}
+use Rattle.std.specs.Prelude.{Option as Maybe, Result}
+use Rattle.std.specs.Bool.{then_some}
+use Rattle.std.proofs.Common.{◌≡◌, ℕ, Bool, true, false, cond, ◌++◌, ◌+◌, List, [], ◌∷◌, length, sym, refl, ap, ◌∙◌, subst, arith}
+use Rattle.std.proofs.lemmas.List.{take_at, length_push}
+use Rattle.refusals.specs.declared.Refusal.{Refusal}
 use Rattle.record_text.specs.Grammar.{tag, bytes}
-use Rattle.record_text.specs.Tags.{form}
-use Rattle.record_text.specs.Cutter.{part}
-use Rattle.record_text.specs.Machine.{Shape, Tag, opens, closes, whole, bad, tag_of}
+use Rattle.record_text.specs.Machine.{Shape, Tag, opens, closes, whole, bad, named, tag_of}
+use Rattle.record_text.specs.Reading.{slash_first, slash_last}
+use Rattle.record_text.specs.declared.tags.Tag.{Tag as Told}
+use Rattle.record_text.specs.declared.tags.Tag.TheVariants.{Opening, Closing, Alone}
+use Rattle.record_text.specs.Tags.{named_as, told, name_in, Slashed}
+use Rattle.record_text.proofs.Complete.{no_word}
+use Rattle.lexical.specs.Words.{word}
+use lib.Seq.{get_or_at}
+use Rattle.record_text.specs.Pass.{Done}
 use Rattle.record_text.specs.Turns.{Went, WentTag}
-use Rattle.record_text.proofs.Sound.{TagIs, tag_is}
 
-unlike : {X : Type 0} → ◌≡◌ {A = ℕ} 0 1 → X
-unlike e = absurd (omega arith)
+-- the slashes of a body and the name between them
+module _ (f : List ℕ → Tag) (w : List ℕ) (b : Bool) (k : b ≡ word w) where
+  named_if : named f w ≡ cond b (f w) bad
+  named_if = ap (λ y. cond y (f w) bad) (sym k)
 
-opening_tag_is : (bs : List ℕ) (x : Tag) → TagIs bs x → form x ≡ Opening → x ≡ opens bs
-opening_tag_is bs (opens w) k e = ap opens (sym k.0)
-opening_tag_is bs (closes w) k e = unlike cc
-opening_tag_is bs (whole w) k e = unlike cc
-opening_tag_is bs bad k e = unlike cc
+slashed_opening : (w : List ℕ) (b : Bool) → b ≡ word w → slash_first w ≡ false → slash_last w ≡ false → tag_of w ≡ cond b (opens w) bad
+unfolding tag_of
+slashed_opening [] true k f l = absurd (no_word (sym k))
+slashed_opening [] false k f l = refl
+slashed_opening (x ∷ xs) b k f l = rw (f, l) (named_if opens (x ∷ xs) b k)
 
-closing_tag_is : (bs : List ℕ) (x : Tag) → TagIs bs x → form x ≡ Closing → (1 ≤ length bs) × (x ≡ closes (take (length bs - 1) (drop 1 bs)))
-closing_tag_is bs (opens w) k e = unlike cc
-closing_tag_is bs (closes w) k e =
-    let l : length w ≤ length (47 ∷ w) - 1 = omega arith in
-    let n : length bs ≡ length (47 ∷ w) = ap length k.0 in
-    (omega arith, ap closes (sym (take_all (length (47 ∷ w) - 1) w l) ∙ ap (λ b. take (length b - 1) (drop 1 b)) (sym k.0)))
-closing_tag_is bs (whole w) k e = unlike cc
-closing_tag_is bs bad k e = unlike cc
+slashed_alone : (w : List ℕ) (b : Bool) → b ≡ word w → slash_first (w ++ 47 ∷ []) ≡ false → tag_of (w ++ 47 ∷ []) ≡ cond b (whole w) bad
+unfolding tag_of
+slashed_alone [] b k f = let z : ⊥ = cc in absurd z
+slashed_alone (x ∷ xs) b k f =
+    let n : length (x ∷ xs) ≡ length (xs ++ 47 ∷ []) = omega (arith, length_push xs 47) in
+    rw (f, get_or_at (x ∷ xs) 47 [] 0 _ n, take_at (x ∷ xs) (47 ∷ []) _ n) (named_if whole (x ∷ xs) b k)
 
-alone_tag_is : (bs : List ℕ) (x : Tag) → TagIs bs x → form x ≡ Alone → (w : List ℕ) × (x ≡ whole w) × (length bs ≡ length w + 1)
-alone_tag_is bs (opens w) k e = unlike cc
-alone_tag_is bs (closes w) k e = unlike cc
-alone_tag_is bs (whole w) k e = (w, refl, ap length k.0 ∙ length-append w (47 ∷ []))
-alone_tag_is bs bad k e = unlike cc
+slashed_closing : (w : List ℕ) (b : Bool) → b ≡ word w → tag_of (47 ∷ w) ≡ cond b (closes w) bad
+unfolding tag_of
+slashed_closing w b k = named_if closes w b k
 
-bad_tag_is : (bs : List ℕ) (x : Tag) → form x ≡ Bad → x ≡ bad
-bad_tag_is bs (opens w) e = unlike cc
-bad_tag_is bs (closes w) e = unlike cc
-bad_tag_is bs (whole w) e = unlike cc
-bad_tag_is bs bad e = refl
+pub slashed : (bs : List ℕ) (x : Told) (b : Bool) → Slashed bs x → b ≡ word (name_in x) → told (then_some b x) ≡ tag_of bs
+slashed bs x b h k = told_if b x ∙ sym (go x h k)
+  where
+    told_if : (b : Bool) (x : Told) → told (then_some b x) ≡ cond b (named_as x) bad
+    told_if true x = refl
+    told_if false x = refl
 
-module _ (bs : List ℕ) (f : TagForm) (e : f ≡ form (tag_of bs)) where
-  pub opening_is : f ≡ Opening → tag_of bs ≡ opens bs
-  opening_is g = opening_tag_is bs (tag_of bs) (tag_is bs) (sym e ∙ g)
+    go : (x : Told) → Slashed bs x → b ≡ word (name_in x) → tag_of bs ≡ cond b (named_as x) bad
+    go (Opening w) h k = subst (λ l. tag_of l ≡ cond b (opens w.now) bad) h.2 (slashed_opening w.now b k (ap slash_first h.2 ∙ h.0) (ap slash_last h.2 ∙ h.1))
+    go (Closing w) h k = subst (λ l. tag_of l ≡ cond b (closes w.now) bad) h (slashed_closing w.now b k)
+    go (Alone w) h k = subst (λ l. tag_of l ≡ cond b (whole w.now) bad) h.1 (slashed_alone w.now b k (ap slash_first h.1 ∙ h.0))
 
-  pub closing_is : f ≡ Closing → (1 ≤ length bs) × (tag_of bs ≡ closes (take (length bs - 1) (drop 1 bs)))
-  closing_is g = closing_tag_is bs (tag_of bs) (tag_is bs) (sym e ∙ g)
-
-  pub alone_is : f ≡ Alone → (w : List ℕ) × (tag_of bs ≡ whole w) × (length bs ≡ length w + 1)
-  alone_is g = alone_tag_is bs (tag_of bs) (tag_is bs) (sym e ∙ g)
-
-  pub bad_is : f ≡ Bad → tag_of bs ≡ bad
-  bad_is g = bad_tag_is bs (tag_of bs) (sym e ∙ g)
-
-pub went_as : (p q : ℕ) (s s' : Shape) (bs : List ℕ) (x : Tag) (r : Turn) → tag_of bs ≡ x → p + length (bytes (tag bs)) ≡ q → WentTag p q s x s' r → Went p s (tag bs) s' r
+pub went_as : (p q : ℕ) (s s' : Shape) (bs : List ℕ) (x : Tag) (r : Result (Maybe Done) Refusal) → tag_of bs ≡ x → p + length (bytes (tag bs)) ≡ q → WentTag p q s x s' r → Went p s (tag bs) s' r
 went_as p q s s' bs x r e f w = subst (λ y. WentTag p (p + length (bytes (tag bs))) s y s' r) (sym e) (subst (λ n. WentTag p n s x s' r) (sym f) w)
-
--- the body of a tag
-module _ (t : List ℕ) (a z : ℕ) (h : a ≤ z) (l : z ≤ length t) where
-  pub part_length : length (part t a z) ≡ z - a
-  part_length = length-take-le (z - a) (drop a t) (omega (arith, length-drop a t))
-
-  pub part_again : part t a (a + length (part t a z)) ≡ part t a z
-  part_again = let n : (a + length (part t a z)) - a ≡ z - a = omega (arith, part_length) in ap (λ k. take k (drop a t)) n
-
-pub tag_end : (t : List ℕ) (start at : ℕ) → start < at → at < length t → start + length (bytes (tag (part t (start + 1) at))) ≡ at + 1
-tag_end t start at h l =
-    let n = part_length t (start + 1) at (omega arith) (omega arith) in
-    let m = length-append (part t (start + 1) at) (62 ∷ []) in
-    omega arith

@@ -1,23 +1,19 @@
 -- What `lay` answers to a text and a list, and what the record is afterwards.
-use Rattle.std.specs.Prelude.{◌≡◌, ℕ, ◌≤◌, true, ◌⊎◌, List, [], ◌∷◌, length, take, Some, None, Ok, Err, Option, Result, ◌≢◌}
+use Rattle.std.specs.Prelude.{◌≡◌, ℕ, ◌⊎◌, List, [], ◌∷◌, length, take, Some, None, Ok, Err, Option, Result, ◌≢◌}
 use Rattle.refusals.specs.declared.Refusal.{Refusal}
 use Rattle.refusals.specs.declared.Refusal.TheVariants as refusal
 use Rattle.refusals.specs.Refusals.{number, places}
-use Rattle.records.specs.Limits.{most_nodes}
-use Rattle.records.specs.Nodes.{shaped}
 use Rattle.record_text.specs.declared.entry.Entry.{Entry}
 use Rattle.record_text.specs.declared.text.TextRecord.{TextRecord}
 use Rattle.record_text.specs.Reading.{Misfit, Unclosed, Limit}
 use Rattle.record_text.specs.Opening.{Reads}
-use Rattle.record_text.specs.Pass.{accepts, read, entries}
-use Rattle.record_text.specs.Texts.{text_nodes}
 
 -- the text and the entries that a record holds
 abbrev pub text_of : TextRecord → List ℕ
 text_of x = x.text.now
 
 abbrev pub entries_of : TextRecord → List Entry
-entries_of x = take x.count x.list.now
+entries_of x = x.nodes.now
 
 -- every record holds the entries that the grammar derives
 abbrev pub RecordsRead : Type 0
@@ -52,16 +48,3 @@ Settled t l o =
     × ((p : ℕ) → Misfit t p ⊎ Unclosed t p → o ≡ Some (refusal.Misfit p))
     × ((p : ℕ) → Limit t p → o ≡ Some (refusal.Limit p))
     × (Differs t l → o ≡ Some refusal.List)
-
--- by equations, as a record keeps it: n nodes are accepted, and a pass would write into the list what it has
-pub record Tied (t : List ℕ) (n : ℕ) (l : List Entry) : Type 0 where
-  pub fine : accepts (read t) n ≡ true
-  pub room : n ≤ length l
-  pub same : entries t l ≡ l
-  pub few : n ≤ most_nodes
-  pub shape : shaped 0 (text_nodes t (take n l)) ≡ true
-
--- the answer before the record is set
-abbrev pub Agreed : List ℕ → List Entry → Result ℕ Refusal → Type 0
-Agreed t l (Ok n) = Tied t n l × ((es : List Entry) × Reads t es × (take (length es) l ≡ es) × (take n l ≡ es))
-Agreed t l (Err e) = Unlaid t l (number e) (places e)

@@ -14,7 +14,9 @@ pub mod Machine
 pub mod Pass
 pub mod Agree
 pub mod Tags
+pub mod Cutting
 pub mod Cutter
 pub mod Nest
 pub mod Turns
+pub mod Yielding
 pub mod Passing

@@ -1,8 +1,8 @@
 -- A pass over the items of a text, within the limits: its outcome, and the nodes that it completes, in the order in which they end.
-use Rattle.std.specs.Prelude.{ℕ, ◌+◌, Bool, true, false, ◌&&◌, ◌||◌, List, [], ◌∷◌, ◌++◌, length, ◌==◌, nat_le, slice_set}
+use Rattle.std.specs.Prelude.{ℕ, ◌+◌, Bool, true, false, ◌&&◌, ◌||◌, List, [], ◌∷◌, ◌++◌, length, ◌==◌, nat_le, slice_set, ℤ, Some, None, Option as Maybe}
 use Rattle.std.proofs.Math.Option.{Option, some, none}
 use Rattle.record_text.specs.declared.entry.Entry.{Entry}
-use Rattle.record_text.specs.Entries.{branch, leaf}
+use Rattle.record_text.specs.Entries.{entry, branch}
 use Rattle.records.specs.Limits.{most_nodes, most_levels}
 use Rattle.record_text.specs.Grammar.{Item, gap, tag, num, stray, lone, bytes}
 use Rattle.record_text.specs.Reading.{Outcome, accepted, misfit, limit}
@@ -48,11 +48,15 @@ start = shape 0 [] elements
 abbrev pub read : List ℕ → Outcome
 read t = check 0 start (items t)
 
+-- the value of an element that holds h
+abbrev pub value_in : Held → Maybe ℤ
+value_in blanks = None
+value_in elements = None
+value_in (value v) = Some v
+
 -- the entry of an element that began at p and holds h
 abbrev pub entry_of : ℕ → Held → ℕ → ℕ → ℕ → Entry
-entry_of p blanks q n d = branch p q n d
-entry_of p elements q n d = branch p q n d
-entry_of p (value v) q n d = leaf p q n d v
+entry_of p h q n d = entry p q n d (value_in h)
 
 -- a node that is complete, by its number, with its entry
 abbrev pub Done : Type 0

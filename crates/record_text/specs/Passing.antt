@@ -1,22 +1,18 @@
 -- What the code of a pass answers.
-use Rattle.std.specs.Prelude.{◌≡◌, ℕ, List, Ok, Err, Result}
+use Rattle.std.specs.Prelude.{◌≡◌, ℕ, ◌≤◌, true, List, length, take, Some, None, Ok, Err, Option as Maybe, Result}
+use Rattle.std.specs.Borrow.{Bor}
 use Rattle.refusals.specs.declared.Refusal.{Refusal}
-use Rattle.refusals.specs.declared.Refusal.TheVariants as refusal
-use Rattle.record_text.specs.Reading.{Outcome, accepted, misfit, limit}
+use Rattle.refusals.specs.Refusals.{number, places}
+use Rattle.records.specs.Limits.{most_nodes}
+use Rattle.records.specs.Nodes.{shaped}
+use Rattle.record_text.specs.Texts.{text_nodes}
+use Rattle.record_text.specs.Laying.{Unlaid}
+use Rattle.record_text.specs.Reading.{accepted}
 use Rattle.record_text.specs.declared.entry.Entry.{Entry}
-use Rattle.record_text.specs.declared.tally.Tally.{Tally}
-use Rattle.record_text.specs.Opening.{Opened}
-use Rattle.record_text.specs.Pass.{entries, read}
-
-abbrev pub outcome : Outcome → Result ℕ Refusal
-outcome (accepted n) = Ok n
-outcome (misfit p) = Err (refusal.Misfit p)
-outcome (limit p) = Err (refusal.Limit p)
-
--- the number of nodes alone
-abbrev pub tallied : Result Tally Refusal → Result ℕ Refusal
-tallied (Ok x) = Ok x.nodes
-tallied (Err e) = Err e
+use Rattle.record_text.specs.Opening.{Reads, Opened}
+use Rattle.record_text.specs.Pass.{accepts, completed, entries, read}
+use Rattle.record_text.specs.Turns.{outcome}
+use Rattle.record_text.specs.Agree.{Agrees}
 
 abbrev pub Faultless : List ℕ → Type 0
 Faultless t = (n : ℕ) × (read t ≡ accepted n)
@@ -25,3 +21,21 @@ Faultless t = (n : ℕ) × (read t ≡ accepted n)
 abbrev pub Verdict : List ℕ → List Entry → Result ℕ Refusal → Type 0
 Verdict t l (Ok n) = Faultless t × ((l' : List Entry) → l' ≡ entries t l → Opened t l (Ok n) l')
 Verdict t l (Err e) = Opened t l (Err e) l
+
+-- how many nodes there are, if the list has the entry of each
+abbrev pub Compared : List ℕ → List Entry → Result (Maybe ℕ) Refusal → Type 0
+Compared t l (Ok (Some n)) = (outcome (read t) ≡ Ok n) × (n ≤ length l) × Agrees (completed t) l
+Compared t l (Ok None) = (n : ℕ) × (outcome (read t) ≡ Ok n) × (n ≤ length l → Agrees (completed t) l → ⊥)
+Compared t l (Err e) = outcome (read t) ≡ Err e
+
+-- by equations, as a record keeps it: so many nodes are accepted, and a pass would write these entries
+pub record Tied (t : List ℕ) (es : List Entry) : Type 0 where
+  pub fine : accepts (read t) (length es) ≡ true
+  pub same : entries t es ≡ es
+  pub few : length es ≤ most_nodes
+  pub shape : shaped 0 (text_nodes t es) ≡ true
+
+-- the answer of `lay` before the record is set: the front of the list that has the entries
+abbrev pub Agreed : List ℕ → List Entry → Result (Bor (List Entry)) Refusal → Type 0
+Agreed t l (Ok es) = Tied t es.now × Reads t es.now × (take (length es.now) l ≡ es.now)
+Agreed t l (Err e) = Unlaid t l (number e) (places e)

@@ -1,6 +1,6 @@
 -- The nodes and the places that the entries of a text tell.
 use Rattle.std.specs.Prelude.{◌≡◌, ℕ, ◌+◌, ◌≤◌, true, List, map, length, take, drop}
-use Rattle.std.proofs.Common.{sym, ◌∙◌, arith, length-take}
+use Rattle.std.proofs.Common.{sym, ◌∙◌, arith}
 use Rattle.std.proofs.lemmas.List.{length-map}
 use Rattle.records.specs.Limits.{most_nodes}
 use Rattle.records.specs.Nodes.{Node, Shape, shaped}
@@ -17,11 +17,8 @@ abbrev pub text_places : List Entry → List ℕ
 text_places es = map (λ e. e.start) es
 
 -- (The two lemmas stand here and not in proofs/ since they are terms of the code: members of an impl.)
-pub text_shape : (t : List ℕ) (n : ℕ) (l : List Entry) → n ≤ most_nodes → shaped 0 (text_nodes t (take n l)) ≡ true → Shape (text_nodes t (take n l))
-text_shape t n l few s =
-    let m = length-map (take n l) (text_node t) in
-    let k = length-take n l in
-    (omega arith, s)
+pub text_shape : (t : List ℕ) (es : List Entry) → length es ≤ most_nodes → shaped 0 (text_nodes t es) ≡ true → Shape (text_nodes t es)
+text_shape t es few s = let m = length-map es (text_node t) in (omega arith, s)
 
 pub text_level : (t : List ℕ) (es : List Entry) → length (text_places es) ≡ length (text_nodes t es)
 text_level t es = length-map es (λ (e : Entry). e.start) ∙ sym (length-map es (text_node t))

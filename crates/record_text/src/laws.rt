@@ -3,50 +3,36 @@ ghost use Rattle.record_text.specs.Laws.{FitsInText, KeepsShape, OneAnswer, OneC
 ghost use Rattle.record_text.specs.Laying.{RecordsRead};
 
 // Every text has one answer of those that the grammar and the limits give.
-pub fn one_answer() -> u8
+pub fn one_answer()
     ensures { OneAnswer }
-{
-    0
-}
+{}
 
 // A well-formed text has one list of entries.
-pub fn one_list() -> u8
+pub fn one_list()
     ensures { OneList }
-{
-    0
-}
+{}
 
 // To a text and a list there is one answer of `open`, and one list afterwards.
-pub fn one_opening() -> u8
+pub fn one_opening()
     ensures { OneOpening }
-{
-    0
-}
+{}
 
 // A text is cut into items in one way.
-pub fn one_cut() -> u8
+pub fn one_cut()
     ensures { OneCut }
-{
-    0
-}
+{}
 
 // Items fit exactly if the items of some well-formed text begin with them.
-pub fn fits_in_text() -> u8
+pub fn fits_in_text()
     ensures { FitsInText }
-{
-    0
-}
+{}
 
 // The nodes of an accepted text have the shape of a record.
-pub fn keeps_shape() -> u8
+pub fn keeps_shape()
     ensures { KeepsShape }
-{
-    0
-}
+{}
 
 // Every text record holds what the grammar derives of its text.
-pub fn records_read() -> u8
+pub fn records_read()
     ensures { RecordsRead }
-{
-    0
-}
+{}

@@ -1,21 +1,18 @@
 // Record text: XML-like text read into a list of node entries.
 #![tactic(auto)]
 
-mod compare;
-mod cutter;
 mod entry;
+mod items;
 mod laws;
-mod names;
 mod nest;
+mod opening;
 mod reader;
 mod tags;
-mod tally;
 mod text;
-mod turn;
 
 pub use entry::Entry;
 pub use laws::{
     fits_in_text, keeps_shape, one_answer, one_cut, one_list, one_opening, records_read,
 };
-pub use reader::open;
+pub use opening::open;
 pub use text::{TextRecord, first_part};

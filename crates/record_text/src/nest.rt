@@ -1,13 +1,18 @@
 // The open elements, and what each item does to them.
+ghost use Rattle.std.specs.Prelude.{◌≡◌};
+ghost use Rattle.lent.specs.Stacks.{room};
+ghost use Rattle.records.specs.Limits.{most_levels};
+
 mod moves;
 
+use crate::entry::Entry;
 use lent::Stack;
 
-// An opening tag whose closing tag is to come: where it stands, how long its name is, and which node it begins.
+// An opening tag whose closing tag is to come: its name, where it stands, and which node it begins.
 #[derive(Clone, Copy)]
-pub struct OpenTag {
+pub struct OpenTag<'t> {
+    pub name: &'t [u8],
     pub place: usize,
-    pub name_len: usize,
     pub node: usize,
 }
 
@@ -20,8 +25,20 @@ pub enum Held {
 }
 
 #[derive(Drop)]
-pub struct Nest<'s> {
+pub struct Nest<'t, 's> {
     pub nodes: usize,
     pub held: Held,
-    pub tags: Stack<'s, OpenTag>,
+    pub tags: Stack<'s, OpenTag<'t>>,
+    // there is room for as many open tags as may lie in one another
+    ghost ready: { room tags ≡ most_levels },
 }
+
+// A node that is complete: its number and its entry.
+pub type Done = (usize, Entry);
+
+// What a slot for an open tag holds before there is one.
+pub const NO_TAG: OpenTag<'static> = OpenTag {
+    name: &[],
+    place: 0,
+    node: 0,
+};

@@ -1,49 +1,43 @@
-// The forms of a tag: `<name>`, `</name>` and `<name/>`.
-ghost use Rattle.std.specs.Prelude.{◌≡◌, ◌==◌};
-ghost use Rattle.record_text.specs.Tags.{form};
+// The tags: `<name>`, `</name>` and `<name/>`.
+ghost use Rattle.std.specs.Prelude.{◌≡◌};
+ghost use Rattle.record_text.specs.Tags.{Slashed, name_in, told};
 ghost use Rattle.record_text.specs.Machine.{tag_of};
 
-use lexical::{Kind, is_word, kind_of};
+use lexical::is_word;
 
+// A tag, with its name.
 #[derive(Clone, Copy)]
-pub enum TagForm {
-    Opening,
-    Closing,
-    Alone,
-    Bad,
+pub enum Tag<'t> {
+    Opening(&'t [u8]),
+    Closing(&'t [u8]),
+    Alone(&'t [u8]),
 }
 
-fn is_slash(b: u8) -> bool
-    ensures { result ≡ (b == 47) }
-{
-    matches!(kind_of(b), Kind::Slash)
+impl<'t> Tag<'t> {
+    fn name(self) -> &'t [u8]
+        ensures { result.now ≡ name_in self.entry }
+    {
+        match self {
+            Tag::Opening(name) | Tag::Closing(name) | Tag::Alone(name) => name,
+        }
+    }
 }
 
-// The form of a tag, by what stands between its `<` and its `>`.
-pub(crate) fn tag_of(body: &[u8]) -> TagForm
-    ensures { result ≡ form (tag_of body.now) }
+// Which tag it is by its slashes, whatever its name.
+fn by_slashes(body: &[u8]) -> Tag<'_>
+    ensures { Slashed body.now result }
 {
-    let n = body.len();
-    if n == 0 {
-        return TagForm::Bad;
+    match body {
+        [b'/', name @ ..] => Tag::Closing(name),
+        [name @ .., b'/'] => Tag::Alone(name),
+        name => Tag::Opening(name),
     }
-    if is_slash(body[0]) {
-        return if is_word(&body[1..n]) {
-            TagForm::Closing
-        } else {
-            TagForm::Bad
-        };
-    }
-    if is_slash(body[n - 1]) {
-        return if is_word(&body[0..n - 1]) {
-            TagForm::Alone
-        } else {
-            TagForm::Bad
-        };
-    }
-    if is_word(body) {
-        TagForm::Opening
-    } else {
-        TagForm::Bad
-    }
+}
+
+// The tag of this body, which is what stands between its `<` and its `>`.
+pub(crate) fn tag_of(body: &[u8]) -> Option<Tag<'_>>
+    ensures { told result ≡ tag_of body.now }
+{
+    let tag = by_slashes(body);
+    is_word(tag.name()).then_some(tag)
 }

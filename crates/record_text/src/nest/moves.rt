@@ -1,46 +1,42 @@
-ghost use Rattle.std.specs.Prelude.{◌≡◌, ℕ, ◌+◌, ◌<◌, List, length};
+ghost use Rattle.std.specs.Prelude.{◌≡◌, ℕ, ◌+◌, List, length};
 ghost use Rattle.lent.specs.Stacks.{held};
-ghost use Rattle.record_text.specs.Cutter.{part};
-ghost use Rattle.record_text.specs.Grammar.{num, tag};
-ghost use Rattle.records.specs.Limits.{most_levels};
+ghost use Rattle.record_text.specs.Cutting.{TagSpans, item_of};
+ghost use Rattle.record_text.specs.Grammar.{bytes, num, tag};
 ghost use Rattle.record_text.specs.Machine.{closes, opens, same, whole};
-ghost use Rattle.record_text.specs.Nest.{Ready, held_of, name_of, shape_of};
-ghost use Rattle.record_text.specs.Pass.{entry_of, full, start as first};
-ghost use Rattle.record_text.specs.Turns.{Went, WentTag};
+ghost use Rattle.record_text.specs.Nest.{held_of, shape_of};
+ghost use Rattle.record_text.specs.Pass.{full, start as first, value_in};
+ghost use Rattle.record_text.specs.Turns.{Admitted, Ended, Went, WentTag};
 
-use super::{Held, Nest, OpenTag};
+use super::{Done, Held, Nest, OpenTag};
 use crate::entry::Entry;
-use crate::names::has_name;
-use crate::tags::{TagForm, tag_of};
-use crate::turn::Turn;
+use crate::items::{Item, Placed};
+use crate::tags::{Tag, tag_of};
 use lent::Stack;
 use lexical::number;
-use records::MOST_NODES;
-
-// The entry of an element that holds this.
-fn entry(held: Held, start: usize, end: usize, name_len: usize, depth: usize) -> Entry
-    ensures { result ≡ entry_of start (held_of held) end name_len depth }
-{
-    let value = match held {
-        Held::Value(value) => Some(value),
-        Held::Blanks | Held::Elements => None,
-    };
-    Entry::new(start, end, name_len, depth, value)
-}
+use records::{MOST_LEVELS, MOST_NODES};
+use refusals::Refusal;
 
 // Whether the open tag has the name.
-fn is_named(text: &[u8], tag: OpenTag, name: &[u8]) -> bool
-    ensures { result ≡ same name.now (name_of text.now tag) }
+fn is_named(tag: OpenTag<'_>, name: &[u8]) -> bool
+    ensures { result ≡ same name.now tag.entry.name.now }
 {
-    has_name(text, tag.place, tag.name_len, name)
+    name == tag.name
 }
 
-impl<'s> Nest<'s> {
+// The value of an element that holds this.
+fn value_of(held: Held) -> Option<i32>
+    ensures { result ≡ value_in (held_of held) }
+{
+    match held {
+        Held::Value(value) => Some(value),
+        Held::Blanks | Held::Elements => None,
+    }
+}
+
+impl<'t, 's> Nest<'t, 's> {
     // No element yet, over slots for the open tags.
-    pub(crate) fn over(slots: &'s mut [OpenTag]) -> Nest<'s>
-        requires { length slots.old ≡ most_levels }
-        ensures ready { Ready result }
-        ensures first { (t : List ℕ) → shape_of t result ≡ first }
+    pub(crate) fn over(slots: &'s mut [OpenTag<'t>; MOST_LEVELS]) -> Nest<'t, 's>
+        ensures { shape_of result ≡ first }
     {
         Nest {
             nodes: 0,
@@ -51,104 +47,111 @@ impl<'s> Nest<'s> {
 
     // Whether one element more would be a node too many or lie too deep.
     fn is_full(&self) -> bool
-        requires { Ready self.now }
         ensures { result ≡ full self.now.nodes (length (held self.now.tags)) }
     {
         self.nodes >= MOST_NODES || self.tags.is_full()
     }
 
+    // Refuses an element that begins at `place`, where it may not: after a number, or beyond a limit.
+    fn admit(&self, place: usize) -> Result<(), Refusal>
+        ensures { Admitted place (shape_of self.now) result }
+    {
+        if let Held::Value(_) = self.held {
+            return Err(Refusal::Misfit(place));
+        }
+        if self.is_full() {
+            return Err(Refusal::Limit(place));
+        }
+        Ok(())
+    }
+
     // A number item, which began at `place`.
-    pub(crate) fn number(&mut self, digits: &[u8], place: usize) -> Turn
-        requires { Ready self.old }
-        ensures ready { Ready self.new }
-        ensures went { (t : List ℕ) → Went place (shape_of t self.old) (num digits.now) (shape_of t self.new) result }
+    fn number(&mut self, digits: &[u8], place: usize) -> Result<Option<Done>, Refusal>
+        ensures { Went place (shape_of self.old) (num digits.now) (shape_of self.new) result }
     {
         match (self.held, number(digits)) {
             (Held::Blanks, Some(value)) => {
                 self.held = Held::Value(value);
-                Turn::On
+                Ok(None)
             }
-            _ => Turn::Misfit(place),
+            _ => Err(Refusal::Misfit(place)),
         }
     }
 
     // An opening tag.
-    fn begin(&mut self, place: usize, name_len: usize) -> Turn
-        requires { Ready self.old }
-        ensures ready { Ready self.new }
-        ensures went { (t : List ℕ) (q : ℕ) → WentTag place q (shape_of t self.old) (opens (part t (place + 1) (place + 1 + name_len))) (shape_of t self.new) result }
+    fn begin(&mut self, name: &'t [u8], place: usize) -> Result<Option<Done>, Refusal>
+        ensures { (q : ℕ) → WentTag place q (shape_of self.old) (opens name.now) (shape_of self.new) result }
     {
-        if let Held::Value(_) = self.held {
-            return Turn::Misfit(place);
-        }
-        if self.is_full() {
-            return Turn::Limit(place);
-        }
+        self.admit(place)?;
         let node = self.nodes;
-        let _ = self.tags.push(OpenTag {
-            place,
-            name_len,
-            node,
-        });
+        let _ = self.tags.push(OpenTag { name, place, node });
         self.nodes = node + 1;
         self.held = Held::Blanks;
-        Turn::On
+        Ok(None)
     }
 
     // An empty tag.
-    fn hollow(&mut self, start: usize, end: usize, name_len: usize) -> Turn
-        requires { Ready self.old }
-        ensures ready { Ready self.new }
-        ensures went { (t w : List ℕ) → length w ≡ name_len → WentTag start end (shape_of t self.old) (whole w) (shape_of t self.new) result }
+    fn hollow(&mut self, name: &[u8], at: Placed<'t>) -> Result<Option<Done>, Refusal>
+        ensures { WentTag at.entry.start at.entry.end (shape_of self.old) (whole name.now) (shape_of self.new) result }
     {
-        if let Held::Value(_) = self.held {
-            return Turn::Misfit(start);
-        }
-        if self.is_full() {
-            return Turn::Limit(start);
-        }
+        self.admit(at.start)?;
         let node = self.nodes;
         self.nodes = node + 1;
         self.held = Held::Elements;
-        Turn::Done(
-            node,
-            entry(Held::Elements, start, end, name_len, self.tags.len()),
-        )
+        let depth = self.tags.len();
+        let entry = Entry::new(at.start, at.end, name.len(), depth, None);
+        Ok(Some((node, entry)))
     }
 
-    // A closing tag, from `place` to `end`.
-    fn close(&mut self, text: &[u8], name: &[u8], place: usize, end: usize) -> Turn
-        requires { Ready self.old }
-        ensures ready { Ready self.new }
-        ensures went { WentTag place end (shape_of text.now self.old) (closes name.now) (shape_of text.now self.new) result }
+    // A closing tag.
+    fn close(&mut self, name: &[u8], at: Placed<'t>) -> Result<Option<Done>, Refusal>
+        ensures { WentTag at.entry.start at.entry.end (shape_of self.old) (closes name.now) (shape_of self.new) result }
     {
-        let Some(tag) = self.tags.pop() else {
-            return Turn::Misfit(place);
-        };
-        if !is_named(text, tag, name) {
-            return Turn::Misfit(place);
+        let tag = self.tags.pop().ok_or(Refusal::Misfit(at.start))?;
+        if !is_named(tag, name) {
+            return Err(Refusal::Misfit(at.start));
         }
-        let held = self.held;
+        let value = value_of(self.held);
         self.held = Held::Elements;
-        Turn::Done(
-            tag.node,
-            entry(held, tag.place, end, name.len(), self.tags.len()),
-        )
+        let depth = self.tags.len();
+        let entry = Entry::new(tag.place, at.end, name.len(), depth, value);
+        Ok(Some((tag.node, entry)))
     }
 
-    // The tag whose `<` stands at `start` and whose `>` stands at `at`.
-    pub(crate) fn tag(&mut self, text: &[u8], start: usize, at: usize) -> Turn
-        requires { (Ready self.old) × ((start < at) × (at < length text.now)) }
-        ensures ready { Ready self.new }
-        ensures went { Went start (shape_of text.now self.old) (tag (part text.now (start + 1) at)) (shape_of text.now self.new) result }
+    // A tag by its body.
+    fn tag(&mut self, body: &'t [u8], at: Placed<'t>) -> Result<Option<Done>, Refusal>
+        requires { at.start + length (bytes (tag body.now)) ≡ at.end }
+        ensures { Went at.entry.start (shape_of self.old) (tag body.now) (shape_of self.new) result }
     {
-        let body = &text[start + 1..at];
-        let n = body.len();
         match tag_of(body) {
-            TagForm::Opening => self.begin(start, n),
-            TagForm::Closing => self.close(text, &body[1..n], start, at + 1),
-            TagForm::Alone => self.hollow(start, at + 1, n - 1),
-            TagForm::Bad => Turn::Misfit(start),
+            Some(Tag::Opening(name)) => self.begin(name, at.start),
+            Some(Tag::Closing(name)) => self.close(name, at),
+            Some(Tag::Alone(name)) => self.hollow(name, at),
+            None => Err(Refusal::Misfit(at.start)),
         }
+    }
+
+    // The next item of the text.
+    pub(crate) fn take(&mut self, piece: Placed<'t>) -> Result<Option<Done>, Refusal>
+        requires { TagSpans piece.start piece.item piece.end }
+        ensures { (t : List ℕ) → Went piece.entry.start (shape_of self.old) (item_of t piece.entry.item) (shape_of self.new) result }
+    {
+        let start = piece.start;
+        match piece.item {
+            Item::Gap => Ok(None),
+            Item::Tag(body) => self.tag(body, piece),
+            Item::Number(digits) => self.number(digits, start),
+            Item::Stray | Item::Lone => Err(Refusal::Misfit(start)),
+        }
+    }
+
+    // The end of the text, at `place`.
+    pub(crate) fn end(&self, place: usize) -> Result<(), Refusal>
+        ensures { Ended place (shape_of self.now) result }
+    {
+        if self.tags.len() > 0 {
+            return Err(Refusal::Misfit(place));
+        }
+        Ok(())
     }
 }

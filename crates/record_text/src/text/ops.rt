@@ -1,36 +1,23 @@
 ghost use Rattle.std.specs.Prelude.{◌≡◌, []};
-ghost use Rattle.record_text.specs.Laying.{Agreed, Laid, Settled, entries_of, refusal_of, text_of};
-ghost use Rattle.record_text.specs.Parts.{part_of, place_of, span};
+ghost use Rattle.record_text.specs.Laying.{Laid, Settled, entries_of, refusal_of, text_of};
+ghost use Rattle.record_text.specs.Passing.{Agreed};
+ghost use Rattle.record_text.specs.Parts.{part_of, place_of};
 
 use super::TextRecord;
 use crate::entry::Entry;
-use crate::reader::pass;
+use crate::opening::compared;
+use lexical::part;
 use refusals::Refusal;
 
-// How many nodes the text has, with whose entries the list begins.
-fn agreed(text: &[u8], list: &[Entry]) -> Result<usize, Refusal>
+// The front of the list that has an entry for each node of the text.
+fn agreed<'n>(text: &[u8], list: &'n [Entry]) -> Result<&'n [Entry], Refusal>
     ensures agreed { Agreed text.now list.now result }
     ensures settled { Settled text.now list.now (refusal_of result) }
 {
-    let tally = pass(text, &mut [], list)?;
-    if !tally.is_of(list) {
+    let Some(nodes) = compared(text, list)? else {
         return Err(Refusal::List);
-    }
-    Ok(tally.nodes)
-}
-
-// The bytes from one place to another, as far as the text goes.
-fn span(text: &[u8], from: usize, to: usize) -> &[u8]
-    ensures { result.now ≡ span text.now from to }
-{
-    let n = text.len();
-    if from >= to || from >= n {
-        return &text[n..n];
-    }
-    if to > n {
-        return &text[from..n];
-    }
-    &text[from..to]
+    };
+    Ok(&list[..nodes])
 }
 
 // The part of the text that node n of the list takes up, and its place.
@@ -38,22 +25,16 @@ fn part_at<'t>(text: &'t [u8], list: &[Entry], n: usize) -> (&'t [u8], usize)
     ensures part { result.0.now ≡ part_of text.now list.now n }
     ensures place { result.1 ≡ place_of text.now list.now n }
 {
-    if n < list.len() {
-        let entry = list[n];
-        (span(text, entry.start, entry.end), entry.start)
-    } else {
-        (&text[text.len()..text.len()], text.len())
+    match list.get(n) {
+        Some(entry) => {
+            let len = entry.end.saturating_sub(entry.start);
+            (part(text, entry.start, len), entry.start)
+        }
+        None => (&[], text.len()),
     }
 }
 
 impl<'t, 'n> TextRecord<'t, 'n> {
-    // The entries of its nodes.
-    pub(super) fn entries(&self) -> &'n [Entry]
-        ensures { result.now ≡ entries_of self.now }
-    {
-        &self.list[0..self.count]
-    }
-
     // A record without nodes.
     pub fn empty() -> TextRecord<'t, 'n>
         ensures text { text_of result ≡ [] }
@@ -61,8 +42,7 @@ impl<'t, 'n> TextRecord<'t, 'n> {
     {
         TextRecord {
             text: &[],
-            list: &[],
-            count: 0,
+            nodes: &[],
         }
     }
 
@@ -71,8 +51,8 @@ impl<'t, 'n> TextRecord<'t, 'n> {
         ensures laid { Laid text.now list.now result self.old self.new }
         ensures settled { Settled text.now list.now (refusal_of result) }
     {
-        let count = agreed(text, list)?;
-        *self = TextRecord { text, list, count };
+        let nodes = agreed(text, list)?;
+        *self = TextRecord { text, nodes };
         Ok(())
     }
 
@@ -82,6 +62,6 @@ impl<'t, 'n> TextRecord<'t, 'n> {
         ensures part { result.0.now ≡ part_of (text_of self.now) (entries_of self.now) n }
         ensures place { result.1 ≡ place_of (text_of self.now) (entries_of self.now) n }
     {
-        part_at(self.text, self.entries(), n)
+        part_at(self.text, self.nodes, n)
     }
 }

@@ -1,6 +1,5 @@
 // The questions of records, put to a text.
 ghost use Rattle.std.specs.Prelude.{◌≡◌, length, slice_index, slice_index_or};
-ghost use Rattle.record_text.specs.Entries.{no_entry};
 ghost use Rattle.record_text.specs.Laying.{entries_of, text_of};
 ghost use Rattle.record_text.specs.Texts.{text_level, text_node, text_nodes, text_places, text_shape};
 ghost use Rattle.records.specs.Nodes.{no_node};
@@ -8,21 +7,14 @@ ghost use Rattle.std.specs.Str.{bytes_eq};
 
 use super::TextRecord;
 use crate::entry::Entry;
-use crate::names::bytes_after;
+use lexical::{after, part};
 use records::Record;
-
-// The entry of node n, or one that is all zero where there is none.
-fn entry_at(list: &[Entry], n: usize) -> Entry
-    ensures { result ≡ slice_index_or list.now n no_entry }
-{
-    list.get(n).copied().unwrap_or_default()
-}
 
 // Whether the entry tells the name.
 fn tells_name(text: &[u8], entry: Entry, name: &[u8]) -> bool
     ensures { result ≡ bytes_eq (text_node text.now entry).name name.now }
 {
-    bytes_after(text, entry.start, entry.name_len) == name
+    part(after(text, entry.start), 0, entry.name_len) == name
 }
 
 impl<'t, 'n> TextRecord<'t, 'n> {
@@ -30,7 +22,7 @@ impl<'t, 'n> TextRecord<'t, 'n> {
     fn len(&self) -> usize
         ensures { result ≡ length (text_nodes (text_of self.now) (entries_of self.now)) }
     {
-        self.count
+        self.nodes.len()
     }
 
     // The entry of node n, or one that is all zero where there is none.
@@ -38,7 +30,7 @@ impl<'t, 'n> TextRecord<'t, 'n> {
         ensures node { text_node (text_of self.now) result ≡ slice_index_or (text_nodes (text_of self.now) (entries_of self.now)) n no_node }
         ensures place { result.start ≡ slice_index (text_places (entries_of self.now)) n }
     {
-        entry_at(self.entries(), n)
+        self.nodes.get(n).copied().unwrap_or_default()
     }
 }
 
@@ -47,7 +39,7 @@ impl<'t, 'n> Record for TextRecord<'t, 'n> {
 
     ghost places = { λ x. text_places (entries_of x) };
 
-    ghost shape = { λ x. text_shape x.text.now x.count x.list.now x.few x.shape };
+    ghost shape = { λ x. text_shape x.text.now x.nodes.now x.few x.shape };
 
     ghost placed = { λ x. text_level (text_of x) (entries_of x) };
 

@@ -1,24 +1,12 @@
-use Rattle.std.proofs.Common.{true, false, refl}
+use Rattle.std.proofs.Common.{length, refl, sym, ap, ◌∙◌}
 use Rattle.lent.specs.Stacks.{held}
-use Rattle.record_text.proofs.Nests.{full_ups, free_held, alone_done}
+use Rattle.record_text.specs.Entries.{branch}
+use Rattle.record_text.proofs.Nests.{ups_length, admitted, done_same}
 use Rattle.record_text.proofs.nest.Nest.hollow.Goals as goal
-
-pub returns-then-is_full : goal.returns-then-is_full
-returns-then-is_full c =
-    let s = c.args.self.now in
-    record {
-      ready = c.requires;
-      went = λ t w e. (refl, full_ups t s.nodes (held s.tags) true c.if-is_full.ensures, (_, free_held s.held _ c.in_default.not-Value));
-    }
 
 pub returns : goal.returns
 returns c =
-    let s = c.args.self.now in
-    record {
-      ready = c.requires;
-      went = λ t w e. (
-        full_ups t s.nodes (held s.tags) false c.if-is_full.ensures,
-        free_held s.held _ c.in_default.not-Value,
-        alone_done t w (held s.tags) s.nodes c.args.start c.args.end c.args.name_len c.len.result c.entry.result e c.len.ensures c.entry.ensures,
-      );
-    }
+    let s = c.args.self.now in (
+      admitted c.args.at.start s.nodes (held s.tags) s.held c.in_ok-admit.ensures _ _ refl,
+      done_same s.nodes _ _ (ap (branch c.args.at.start c.args.at.end (length c.args.name.now)) (ups_length (held s.tags) ∙ sym c.len-depth.ensures) ∙ sym c.new-entry.ensures),
+    )

@@ -1,19 +1,12 @@
-use Rattle.std.proofs.Common.{◌≡◌, IsErrAnd, Ok, Err, Result, sym, refl, ap, subst}
-use Rattle.refusals.specs.declared.Refusal.{Refusal}
-use Rattle.record_text.specs.Laying.{Laid, Settled, refusal_of}
+use Rattle.std.proofs.Common.{sym, subst}
+use Rattle.record_text.specs.Laying.{Settled, refusal_of}
+use Rattle.record_text.proofs.Opens.{error_from}
 use Rattle.record_text.proofs.text.TextRecord.lay.Goals as goal
 
--- `?` hands the refusal on as it is
-err_from : (r : Result (Unit {0}) Refusal) (e : Refusal) → IsErrAnd r (λ f. f ≡ e) → r ≡ Err e
-err_from (Ok n) e h = absurd h
-err_from (Err f) e h = ap Err h
+pub returns-in_err-nodes-clause-settled : goal.returns-in_err-nodes-clause-settled
+returns-in_err-nodes-clause-settled c =
+    let q = error_from c.from_residual.result c.in_err-nodes.field-0.0 c.from_residual.ensures.1 in
+    subst (λ r. Settled c.args.text.now c.args.list.now (refusal_of r)) (sym q) c.in_err-nodes.ensures.settled
 
-pub returns-in_err-count : goal.returns-in_err-count
-returns-in_err-count c =
-    let t = c.args.text.now in
-    let l = c.args.list.now in
-    let x = c.args.self.now in
-    let e = c.in_err-count.field-0.0 in
-    let f = c.in_err-count.ensures in
-    let q : c.from_residual.result ≡ Err e = err_from c.from_residual.result e c.from_residual.ensures.1 in
-    record { laid = subst (λ r. Laid t l r x x) (sym q) (f.agreed, refl); settled = subst (λ r. Settled t l (refusal_of r)) (sym q) f.settled }
+pub returns-clause-settled : goal.returns-clause-settled
+returns-clause-settled c = c.in_ok-nodes.ensures.settled
