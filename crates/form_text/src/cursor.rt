@@ -1,61 +1,42 @@
-// What stands at a place of a list of tokens, and the place behind it.
-ghost use Rattle.std.specs.Prelude.{◌≡◌, MatchOption};
-ghost use Rattle.pieces.specs.Tokens.{byte};
-ghost use Rattle.form_grammar.specs.Parser.{ended, first_number, first_word, past};
-ghost use Rattle.form_text.specs.Reads.{Onward, Steps, from, left, number_left, word_left};
+// What stands first of a list of tokens, and the tokens behind it.
+ghost use Rattle.std.specs.Prelude.{◌≡◌, ◌<◌, length, IfSome};
+ghost use Rattle.pieces.specs.Tokens.{byte, pieces_of};
+ghost use Rattle.lexical.specs.Spellings.{spelling};
+ghost use Rattle.form_grammar.specs.Parser.{first_number, first_word, past};
+ghost use Rattle.form_text.specs.Reads.{left, read_as};
 
 use lexical::Word;
 use pieces::{Sign, Token};
 
-// The place behind a sign, if it stands there.
-pub(crate) fn past(tokens: &[Token], at: usize, sign: Sign) -> Option<usize>
-    ensures value { left tokens.now result ≡ past (byte sign) (from tokens.now at) }
-    ensures onward { MatchOption result Unit (λ n. Onward tokens.now at n) }
+// The tokens behind a sign, if it stands first.
+pub(crate) fn past(tokens: &[Token], sign: Sign) -> Option<&[Token]>
+    ensures value { left result ≡ past (byte sign) (pieces_of tokens.now) }
+    ensures onward { IfSome result (λ rest. length rest.now < length tokens.now) }
 {
-    if at >= tokens.len() {
-        return None;
-    }
-    let Token::Sign(found) = tokens[at] else {
-        return None;
-    };
-    if found.byte() == sign.byte() {
-        Some(at + 1)
-    } else {
-        None
-    }
-}
-
-// The word that stands there, and the place behind it.
-pub(crate) fn word(tokens: &[Token], at: usize) -> Option<(Word, usize)>
-    ensures value { word_left tokens.now result ≡ first_word (from tokens.now at) }
-    ensures onward { Steps tokens.now at result }
-{
-    if at >= tokens.len() {
-        return None;
-    }
-    match tokens[at] {
-        Token::Word(word) => Some((word, at + 1)),
+    match tokens {
+        [Token::Sign(found), rest @ ..] if *found == sign => Some(rest),
         _ => None,
     }
 }
 
-// The number that stands there, and the place behind it.
-pub(crate) fn number(tokens: &[Token], at: usize) -> Option<(i32, usize)>
-    ensures value { number_left tokens.now result ≡ first_number (from tokens.now at) }
-    ensures onward { Steps tokens.now at result }
+// The word that stands first, and the tokens behind it. (`number` differs from it in a variant of a pattern: one function for both would
+// take a closure with the same match in it.)
+pub(crate) fn word(tokens: &[Token]) -> Option<(Word, &[Token])>
+    ensures value { read_as spelling result ≡ first_word (pieces_of tokens.now) }
+    ensures onward { IfSome result (λ r. length r.1.now < length tokens.now) }
 {
-    if at >= tokens.len() {
-        return None;
-    }
-    match tokens[at] {
-        Token::Number(value) => Some((value, at + 1)),
+    match tokens {
+        [Token::Word(word), rest @ ..] => Some((*word, rest)),
         _ => None,
     }
 }
 
-// Whether no token stands there.
-pub(crate) fn ended(tokens: &[Token], at: usize) -> bool
-    ensures { result ≡ ended (from tokens.now at) }
+// The number that stands first, and the tokens behind it.
+pub(crate) fn number(tokens: &[Token]) -> Option<(i32, &[Token])>
+    ensures { read_as (λ v. v) result ≡ first_number (pieces_of tokens.now) }
 {
-    at >= tokens.len()
+    match tokens {
+        [Token::Number(value), rest @ ..] => Some((*value, rest)),
+        _ => None,
+    }
 }

@@ -5,7 +5,7 @@ ghost use Rattle.pieces.specs.Tokens.{byte};
 use lexical::Word;
 
 // The signs, each by its byte.
-#[derive(Clone, Copy)]
+#[derive(Clone, Copy, PartialEq, Eq)]
 pub enum Sign {
     Equals = b'=' as isize,
     Bar = b'|' as isize,
