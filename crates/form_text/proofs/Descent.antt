@@ -1,10 +1,10 @@
 -- The ways through the reader of contents that the check does not find alone, each answers what the parser gives.
-use Rattle.std.proofs.Common.{◌≡◌, ℕ, zero, suc, ◌+◌, ◌-◌, ◌*◌, ◌<◌, ◌≤◌, List, length, Some, None, Option as Maybe, sym, refl, ap, ◌∙◌, subst, arith}
+use Rattle.std.proofs.Common.{◌≡◌, ℕ, zero, suc, ◌+◌, ◌-◌, ◌*◌, ◌<◌, ◌≤◌, List, [], ◌∷◌, length, Some, None, Option as Maybe, sym, refl, ap, ◌∙◌, subst, arith}
 use Rattle.std.specs.Borrow.{Bor}
 use Rattle.lexical.specs.declared.spelled.Word.{Word}
 use Rattle.contents.specs.declared.expression.Expression.{Expression}
 use Rattle.pieces.specs.declared.token.Token.{Token}
-use Rattle.pieces.specs.Pieces.{Piece, open_round, close_round}
+use Rattle.pieces.specs.Pieces.{Piece, word, number, sign, unfit, open_round, close_round}
 use Rattle.pieces.specs.Tokens.{pieces_of}
 use Rattle.form_grammar.specs.Grammar.{Written, Part, a_choice, an_atom}
 use Rattle.form_grammar.specs.Parser.{Got, parse, past, first_word, joined, closed, bracketed, ◌>>=◌}
@@ -50,14 +50,22 @@ module _ (k j : Part) (b : ℕ) (join : Written → Written → Written)
         let end = (gave r v).onward in
         record { value = first _ (λ m h. ap (λ (c : Written). Some (c, pieces_of u.now)) g ∙ sym (more (Some (y, u)) v m h)); onward = omega arith }
 
+-- no word stands where a sign does
+no_word : (b : ℕ) (s : List Piece) {t : List Piece} → Some t ≡ past b s → None ≡ first_word s
+no_word b [] e = refl
+no_word b (word w ∷ s) e = cc
+no_word b (number v ∷ s) e = refl
+no_word b (sign c ∷ s) e = refl
+no_word b (unfit ∷ s) e = refl
+
 -- Atoms in brackets: what stands inside is a choice, where brackets may stand one less deep.
-module _ {d : ℕ} (ts : List Token) (s : Bor (List Token)) {o : Found} (e : None ≡ first_word (pieces_of ts))
+module _ {d : ℕ} (ts : List Token) (s : Bor (List Token)) {o : Found}
     (f : Some (pieces_of s.now) ≡ past open_round (pieces_of ts)) (l : length s.now < length ts) (z : d ≡ 0 → ⊥) (p : Parses a_choice (d - 1) s.now o) where
   inside : (r : Found) → o ≡ r → (n : ℕ) → 4 * length ts + 1 ≤ n → parse n an_atom d (pieces_of ts) ≡ (read_as written r >>= closed)
   inside r v zero h = absurd (omega arith)
   inside r v (suc m) h =
       let deep : d ≡ suc (d - 1) = omega arith in
-      rw (← e) (rw (← f) (ap (λ k. bracketed (λ c t. parse m a_choice c t) k (pieces_of s.now)) deep ∙ ap (λ o. o >>= closed) (sym ((gave p v).value m (omega arith)))))
+      rw (← no_word open_round (pieces_of ts) f) (rw (← f) (ap (λ k. bracketed (λ c t. parse m a_choice c t) k (pieces_of s.now)) deep ∙ ap (λ o. o >>= closed) (sym ((gave p v).value m (omega arith)))))
 
   pub atom_lost : ◌≡◌ {A = Found} o None → Parses an_atom d ts None
   atom_lost v = record { value = λ n h. sym (inside None v n h); onward = tt }

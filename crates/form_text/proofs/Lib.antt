@@ -1,2 +1,2 @@
 mod Descent
-mod Finding
+pub mod Finding

@@ -9,9 +9,8 @@ use Rattle.contents.specs.Expressions.{content as content_in}
 use Rattle.pieces.specs.declared.token.Token.{Token}
 use Rattle.pieces.specs.Pieces.{Piece}
 use Rattle.pieces.specs.Tokens.{pieces_of}
-use Rattle.pieces.specs.Pieces.{equals}
 use Rattle.form_grammar.specs.Grammar.{Written, Part, a_choice, a_sequence, an_item, an_atom, Body, branch, leaf, Rule}
-use Rattle.form_grammar.specs.Parser.{parse, past, first_word, ◌>>=◌}
+use Rattle.form_grammar.specs.Parser.{parse}
 use Rattle.form_text.specs.declared.rule.Body.{Body as CodeBody}
 use Rattle.form_text.specs.declared.rule.Body.TheVariants.{Branch, Leaf}
 use Rattle.form_text.specs.declared.rule.Rule.{Rule as CodeRule}
@@ -62,15 +61,3 @@ rule_read (Some r) = Some (said r)
 abbrev pub start_read : Maybe (Expression Word) → Maybe Written
 start_read None = None
 start_read (Some e) = Some (written e)
-
--- a variable, `=` and a name, and the pieces behind them
-abbrev pub header : List Piece → Maybe (List ℕ × List ℕ × List Piece)
-header s = do
-  (v, t) ← first_word s
-  u ← past equals t
-  (n, w) ← first_word u
-  Some (v, n, w)
-
-abbrev pub header_left : Maybe (Word × Word × Bor (List Token)) → Maybe (List ℕ × List ℕ × List Piece)
-header_left None = None
-header_left (Some r) = Some (spelling r.0, spelling r.1, pieces_of r.2.now)

@@ -1,12 +1,11 @@
 // Reads contents by recursive descent. Each function reads one kind of part from the tokens, and answers its expression with the tokens
 // behind it, or nothing where no such part stands first.
-ghost use Rattle.std.specs.Prelude.{◌≡◌, IfOk};
+ghost use Rattle.std.specs.Prelude.{◌≡◌, ◌<◌, length, IfOk, IfSome};
+ghost use Rattle.pieces.specs.Tokens.{byte, pieces_of};
 ghost use Rattle.form_grammar.specs.Grammar.{a_choice, a_sequence, an_atom, an_item};
-ghost use Rattle.form_grammar.specs.Parser.{begins, content};
-ghost use Rattle.form_text.specs.Reads.{Parses, read_as, written};
-ghost use Rattle.pieces.specs.Tokens.{pieces_of};
+ghost use Rattle.form_grammar.specs.Parser.{begins, content, past};
+ghost use Rattle.form_text.specs.Reads.{Parses, left, read_as, written};
 
-use crate::cursor::{past, word};
 use contents::Expression;
 use lexical::Word;
 use pieces::{Sign, Token};
@@ -14,6 +13,17 @@ use std::alloc::{AllocError, Global};
 
 // The most brackets inside one another.
 const DEEPEST: usize = 16;
+
+// The tokens behind a sign, if it stands first.
+fn past(tokens: &[Token], sign: Sign) -> Option<&[Token]>
+    ensures value { left result ≡ past (byte sign) (pieces_of tokens.now) }
+    ensures onward { IfSome result (λ rest. length rest.now < length tokens.now) }
+{
+    match tokens {
+        [Token::Sign(found), rest @ ..] if *found == sign => Some(rest),
+        _ => None,
+    }
+}
 
 // One sequence or more, joined by `|`.
 #[cycle(atom_choice_item_sequence)]
@@ -90,8 +100,8 @@ fn atom(
 ) -> Result<Option<(Expression<Word>, &[Token])>, AllocError>
     ensures { IfOk result (λ o. Parses an_atom depth tokens.now o) }
 {
-    if let Some((variable, behind)) = word(tokens) {
-        return Ok(Some((Expression::Item(variable), behind)));
+    if let [Token::Word(variable), behind @ ..] = tokens {
+        return Ok(Some((Expression::Item(*variable), behind)));
     }
     let Some(inside) = past(tokens, Sign::OpenRound) else {
         return Ok(None);

@@ -34,14 +34,14 @@ sequence-returns t c =
 
 pub atom-returns-in_default-2 : goal.atom-returns-in_default-2
 atom-returns-in_default-2 t c =
-    descent.atom_lost c.args.tokens.now c.in-Some-past.inside c.in_default.ensures.value c.in-Some-past.ensures.value c.in-Some-past.ensures.onward c.if-depth-eq0.false c.in_ok-inner.ensures c.in_default-2.is
+    descent.atom_lost c.args.tokens.now c.in-Some.inside c.in-Some.ensures.value c.in-Some.ensures.onward c.if-depth-eq0.false c.in_ok-inner.ensures c.in_default-2.is
 
 pub atom-returns-in_default-past-2 : goal.atom-returns-in_default-past-2
 atom-returns-in_default-past-2 t c =
-    descent.atom_unclosed c.args.tokens.now c.in-Some-past.inside c.in_default.ensures.value c.in-Some-past.ensures.value c.in-Some-past.ensures.onward c.if-depth-eq0.false c.in_ok-inner.ensures c.in-Some-2.is
+    descent.atom_unclosed c.args.tokens.now c.in-Some.inside c.in-Some.ensures.value c.in-Some.ensures.onward c.if-depth-eq0.false c.in_ok-inner.ensures c.in-Some-2.is
     c.in_default-past-2.ensures.value
 
 pub atom-returns : goal.atom-returns
 atom-returns t c =
-    descent.atom_closed c.args.tokens.now c.in-Some-past.inside c.in_default.ensures.value c.in-Some-past.ensures.value c.in-Some-past.ensures.onward c.if-depth-eq0.false c.in_ok-inner.ensures c.in-Some-2.is
-    c.in-Some-past-2.ensures.value c.in-Some-past-2.ensures.onward
+    descent.atom_closed c.args.tokens.now c.in-Some.inside c.in-Some.ensures.value c.in-Some.ensures.onward c.if-depth-eq0.false c.in_ok-inner.ensures c.in-Some-2.is
+    c.in-Some-past.ensures.value c.in-Some-past.ensures.onward
