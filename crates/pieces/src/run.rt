@@ -6,7 +6,8 @@ ghost use Rattle.pieces.specs.Tokens.{piece};
 use crate::token::Token;
 use lexical::{Kind, Word, number};
 
-// The two that there are.
+// The two that there are. (An enum: the definitions of pieces are by it, and in its place a closure for the kinds and one for the token
+// would have to go through each call together.)
 #[derive(Clone, Copy)]
 pub enum Run {
     Word,
@@ -19,8 +20,8 @@ impl Run {
         ensures { result ≡ carries self kind }
     {
         match self {
-            Run::Word => matches!(kind, Kind::Letter | Kind::Digit | Kind::Hyphen),
-            Run::Number => matches!(kind, Kind::Digit | Kind::Hyphen | Kind::Point),
+            Run::Word => kind.continues_word(),
+            Run::Number => kind.in_number(),
         }
     }
 
