@@ -46,7 +46,8 @@ fn choice(
     Ok(Some((first.or(heap, other)?, end)))
 }
 
-// One item or more, joined by `,`.
+// One item or more, joined by `,`. (`choice` with another part, sign and join: one function for both would take these three as closures,
+// and its contract would have to repeat what each of them promises.)
 #[cycle(atom_choice_item_sequence)]
 fn sequence(
     heap: Global,
