@@ -1,4 +1,3 @@
-mod Bools
 pub mod Sound
 pub mod Meanings
 pub mod Told

@@ -1,7 +1,7 @@
 -- Marking numbers the places from left to right. Assumes nothing.
 use Rattle.std.proofs.Common.{◌≡◌, ℕ, zero, suc, ◌+◌, ◌≤◌, List, ◌∷◌, ◌++◌, sym, refl, ap, ◌∙◌, subst, ap₂, inl, inr, add-zero, add-suc, suc-add, zero-add, arith}
 use Rattle.contents.specs.Contents.{Content, empty, item, seq, alt, star, plus, opt, items}
-use Rattle.contents.specs.Marking.{mark, places, range, Among, Once, Linear}
+use Rattle.contents.specs.Marking.{mark, places, range, Among, Once}
 use Rattle.contents.specs.Laws.{MarkingRule}
 
 pub range-++ : (base m n : ℕ) → range base (m + n) ≡ range base m ++ range (base + m) n
@@ -35,6 +35,3 @@ marked_items (opt a) base = marked_items a base
 
 pub marking_linear : MarkingRule
 marking_linear e base = let m = marked_items e base in (m, subst Once (sym m) (range_once base (places e)))
-
-pub marking_linear_any : {V : Type 0} (e : Content V) (base : ℕ) → Linear (mark base e)
-marking_linear_any e base = subst Once (sym (marked_items e base)) (range_once base (places e))

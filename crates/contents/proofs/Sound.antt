@@ -2,7 +2,7 @@
 use Rattle.std.proofs.Common.{◌≡◌, ℕ, true, List, [], ◌∷◌, ◌++◌, refl, eq-eqb}
 use Rattle.contents.specs.Contents.{Content, seq, alt, star, plus, opt, Word, w_empty, w_item, w_seq, w_left, w_right, w_none, w_more, w_plus, w_skip, w_some}
 use Rattle.contents.specs.Sets.{nullable, opens, closes, follows, Run, Local}
-use Rattle.contents.proofs.Bools.{or_left, or_right, and_both}
+use Rattle.std.proofs.lemmas.Bool.{or_left, or_right, and_from}
 
 -- c's sets lie within d's
 pub record Within (c d : Content ℕ) : Type 0 where
@@ -33,18 +33,18 @@ seq_right a b = record {
 
 seq_left : (a b : Content ℕ) → nullable b ≡ true → Within a (seq a b)
 seq_left a b n = record {
-  closing = λ p e. or_right (closes b p) _ (and_both (nullable b) _ n e);
+  closing = λ p e. or_right (closes b p) _ (and_from (nullable b) _ n e);
   following = λ p q e. or_left (follows a p q) _ e;
 }
 
 seq_local : (a b : Content ℕ) (u v : List ℕ) → Local a u → Local b v → Local (seq a b) (u ++ v)
-seq_local a b [] [] l m = and_both (nullable a) _ l m
-seq_local a b [] (q ∷ v) l m = (or_right (opens a q) _ (and_both (nullable a) _ l m.0), run_within (seq_right a b) q v m.1)
+seq_local a b [] [] l m = and_from (nullable a) _ l m
+seq_local a b [] (q ∷ v) l m = (or_right (opens a q) _ (and_from (nullable a) _ l m.0), run_within (seq_right a b) q v m.1)
 seq_local a b (p ∷ u) [] l m = (or_left (opens a p) _ l.0, run_stop (seq_left a b m) p u l.1)
 seq_local a b (p ∷ u) (q ∷ v) l m = (
   or_left (opens a p) _ l.0,
   run_on a (seq a b) (λ x y e. or_left (follows a x y) _ e) q v
-      (λ x e. or_right (follows a x q) _ (or_right (follows b x q) _ (and_both (closes a x) _ e m.0)))
+      (λ x e. or_right (follows a x q) _ (or_right (follows b x q) _ (and_from (closes a x) _ e m.0)))
       (run_within (seq_right a b) q v m.1) p u l.1,
 )
 
@@ -71,7 +71,7 @@ more_local a (p ∷ u) [] l m = (l.0, run_stop (within_star a) p u l.1)
 more_local a (p ∷ u) (q ∷ v) l m = (
   l.0,
   run_on a (star a) (λ x y e. or_left (follows a x y) _ e) q v
-      (λ x e. or_right (follows a x q) _ (and_both (closes a x) _ e m.0)) m.1 p u l.1,
+      (λ x e. or_right (follows a x q) _ (and_from (closes a x) _ e m.0)) m.1 p u l.1,
 )
 
 star_plus : (a : Content ℕ) → Within (star a) (plus a)

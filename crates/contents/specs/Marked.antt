@@ -13,7 +13,7 @@ Marks e base (Err TooMany) = most_occurrences < base + places (content e)
 Marks e base (Err NoMemory) = Unit {0}
 
 -- the same with the number after the last
-abbrev pub Numbers : {V : Type 0} → Expression V → ℕ → Result (Expression ℕ × ℕ) Unmarked → Type 0
-Numbers e base (Ok r) = (content r.0 ≡ mark base (content e)) × (r.1 ≡ base + places (content e)) × (r.1 ≤ most_occurrences)
-Numbers e base (Err TooMany) = most_occurrences < base + places (content e)
-Numbers e base (Err NoMemory) = Unit {0}
+abbrev pub Numbers : {V : Type 0} → Expression V → ℕ → Result (Expression ℕ) Unmarked → ℕ → Type 0
+Numbers e base (Ok m) next = (content m ≡ mark base (content e)) × (next ≡ base + places (content e)) × (next ≤ most_occurrences)
+Numbers e base (Err TooMany) next = most_occurrences < base + places (content e)
+Numbers e base (Err NoMemory) next = Unit {0}

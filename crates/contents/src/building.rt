@@ -1,4 +1,5 @@
-// Expressions made of smaller ones. Each takes memory for its parts.
+// Expressions made of smaller ones. Each takes memory for its parts. (One line each: a helper that boxes for all of them would take the
+// variant as a closure, and leave as many lines.)
 ghost use Rattle.std.specs.Prelude.{◌≡◌, IfOk};
 ghost use Rattle.contents.specs.Contents.{seq, alt, star, plus, opt};
 ghost use Rattle.contents.specs.Expressions.{content};

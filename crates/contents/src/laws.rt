@@ -2,29 +2,21 @@
 ghost use Rattle.contents.specs.Laws.{HasWords, LocalRule, MarkingRule, SetsRule};
 
 // Every content has a word.
-pub fn has_words() -> u8
+pub fn has_words()
     ensures { HasWords }
-{
-    0
-}
+{}
 
 // The computed sets are the declared ones.
-pub fn sets_rule() -> u8
+pub fn sets_rule()
     ensures { SetsRule }
-{
-    0
-}
+{}
 
 // A content in which each occurrence stands once is known by its sets.
-pub fn local_rule() -> u8
+pub fn local_rule()
     ensures { LocalRule }
-{
-    0
-}
+{}
 
 // In a marked content each occurrence stands once.
-pub fn marking_rule() -> u8
+pub fn marking_rule()
     ensures { MarkingRule }
-{
-    0
-}
+{}

@@ -6,7 +6,6 @@ mod expression;
 mod laws;
 mod marking;
 mod queries;
-mod recursion;
 
 pub use expression::Expression;
 pub use laws::{has_words, local_rule, marking_rule, sets_rule};

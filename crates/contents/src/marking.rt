@@ -26,41 +26,32 @@ impl From<AllocError> for Unmarked {
 }
 
 impl<V> Expression<V> {
-    // The expression with its items numbered from `next` on, and the number after the last.
-    fn numbered(&self, heap: Global, next: u16) -> Result<(Expression<u16>, u16), Unmarked>
-        requires { next ≤ most_occurrences }
-        ensures { Numbers self.now next result }
+    // The expression with its items numbered from `next` on, which is then the number after the last.
+    fn numbered(&self, heap: Global, next: &mut u16) -> Result<Expression<u16>, Unmarked>
+        requires { next.old ≤ most_occurrences }
+        ensures { Numbers self.now next.old result next.new }
     {
         match self {
-            Expression::Empty => Ok((Expression::Empty, next)),
+            Expression::Empty => Ok(Expression::Empty),
             Expression::Item(_) => {
-                if next >= MOST_OCCURRENCES {
+                let number = *next;
+                if number >= MOST_OCCURRENCES {
                     return Err(Unmarked::TooMany);
                 }
-                Ok((Expression::Item(next), next + 1))
+                *next = number + 1;
+                Ok(Expression::Item(number))
             }
             Expression::Sequence(a, b) => {
-                let (first, middle) = a.numbered(heap, next)?;
-                let (second, end) = b.numbered(heap, middle)?;
-                Ok((first.then(heap, second)?, end))
+                let first = a.numbered(heap, next)?;
+                Ok(first.then(heap, b.numbered(heap, next)?)?)
             }
             Expression::Choice(a, b) => {
-                let (first, middle) = a.numbered(heap, next)?;
-                let (second, end) = b.numbered(heap, middle)?;
-                Ok((first.or(heap, second)?, end))
+                let first = a.numbered(heap, next)?;
+                Ok(first.or(heap, b.numbered(heap, next)?)?)
             }
-            Expression::Star(a) => {
-                let (inner, end) = a.numbered(heap, next)?;
-                Ok((inner.repeated(heap)?, end))
-            }
-            Expression::Plus(a) => {
-                let (inner, end) = a.numbered(heap, next)?;
-                Ok((inner.repeated_once(heap)?, end))
-            }
-            Expression::Optional(a) => {
-                let (inner, end) = a.numbered(heap, next)?;
-                Ok((inner.omitted(heap)?, end))
-            }
+            Expression::Star(a) => Ok(a.numbered(heap, next)?.repeated(heap)?),
+            Expression::Plus(a) => Ok(a.numbered(heap, next)?.repeated_once(heap)?),
+            Expression::Optional(a) => Ok(a.numbered(heap, next)?.omitted(heap)?),
         }
     }
 
@@ -71,7 +62,7 @@ impl<V> Expression<V> {
         if base > MOST_OCCURRENCES {
             return Err(Unmarked::TooMany);
         }
-        let (marked, _end) = self.numbered(heap, base)?;
-        Ok(marked)
+        let mut next = base;
+        self.numbered(heap, &mut next)
     }
 }

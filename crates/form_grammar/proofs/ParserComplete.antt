@@ -57,44 +57,35 @@ rank an_item = 1
 rank an_atom = 0
 
 -- with more steps than this, all of a part is read
-pub parse_complete : {k : Part} {d : ℕ} {s : List Piece} {e : Written} {t : List Piece} → Reads k d s e t → Stops k t
-    → (n : ℕ) → 4 * length s + rank k < n → ◌≡◌ {A = Got} (parse n k d s) (Some (e, t))
-parse_complete (last_sequence x) h zero b = absurd (not-suc-le-zero b)
-parse_complete (last_sequence {d = d} {s = s} {t = t} {e = e} x) h (suc n) b =
-    ap {B = Got} (λ g. g >>= joined bar alt (λ t. parse n a_choice d t)) (parse_complete x h.1 n (omega arith))
+pub parse_complete : (n : ℕ) {k : Part} {d : ℕ} {s : List Piece} {e : Written} {t : List Piece} → Reads k d s e t → Stops k t
+    → 4 * length s + rank k < n → ◌≡◌ {A = Got} (parse n k d s) (Some (e, t))
+parse_complete zero x h b = absurd (not-suc-le-zero b)
+parse_complete (suc n) (last_sequence {d = d} {s = s} {t = t} {e = e} x) h b =
+    ap {B = Got} (λ g. g >>= joined bar alt (λ t. parse n a_choice d t)) (parse_complete n x h.1 (omega arith))
     ∙ unjoined bar alt (λ t. parse n a_choice d t) e t h.0
-parse_complete (or_choice x y) h zero b = absurd (not-suc-le-zero b)
-parse_complete (or_choice {d = d} {s = s} {t = t} {u = u} {e = e} {f = f} x y) h (suc n) b =
+parse_complete (suc n) (or_choice {d = d} {s = s} {t = t} {u = u} {e = e} {f = f} x y) h b =
     let l = shorter x in
-    ap {B = Got} (λ g. g >>= joined bar alt (λ t. parse n a_choice d t)) (parse_complete x (refl, (refl, refl, refl)) n (omega arith))
-    ∙ ap {B = Got} (λ g. g >>= (λ (p : Written × List Piece). Some (alt e p.0, p.1))) (parse_complete y h n (omega arith))
-parse_complete (last_item x) h zero b = absurd (not-suc-le-zero b)
-parse_complete (last_item {d = d} {s = s} {t = t} {e = e} x) h (suc n) b =
-    ap {B = Got} (λ g. g >>= joined comma seq (λ t. parse n a_sequence d t)) (parse_complete x h.1 n (omega arith))
+    ap {B = Got} (λ g. g >>= joined bar alt (λ t. parse n a_choice d t)) (parse_complete n x (refl, (refl, refl, refl)) (omega arith))
+    ∙ ap {B = Got} (λ g. g >>= (λ (p : Written × List Piece). Some (alt e p.0, p.1))) (parse_complete n y h (omega arith))
+parse_complete (suc n) (last_item {d = d} {s = s} {t = t} {e = e} x) h b =
+    ap {B = Got} (λ g. g >>= joined comma seq (λ t. parse n a_sequence d t)) (parse_complete n x h.1 (omega arith))
     ∙ unjoined comma seq (λ t. parse n a_sequence d t) e t h.0
-parse_complete (then_sequence x y) h zero b = absurd (not-suc-le-zero b)
-parse_complete (then_sequence {d = d} {s = s} {t = t} {u = u} {e = e} {f = f} x y) h (suc n) b =
+parse_complete (suc n) (then_sequence {d = d} {s = s} {t = t} {u = u} {e = e} {f = f} x y) h b =
     let l = shorter x in
-    ap {B = Got} (λ g. g >>= joined comma seq (λ t. parse n a_sequence d t)) (parse_complete x (refl, refl, refl) n (omega arith))
-    ∙ ap {B = Got} (λ g. g >>= (λ (p : Written × List Piece). Some (seq e p.0, p.1))) (parse_complete y h n (omega arith))
-parse_complete (plain x) h zero b = absurd (not-suc-le-zero b)
-parse_complete (plain {d = d} {s = s} {t = t} {e = e} x) h (suc n) b = ap {B = Got} (λ g. g >>= repeated) (parse_complete x tt n (omega arith)) ∙ unrepeated e t h
-parse_complete (starred x) h zero b = absurd (not-suc-le-zero b)
-parse_complete (starred x) h (suc n) b = ap {B = Got} (λ g. g >>= repeated) (parse_complete x tt n (omega arith))
-parse_complete (crossed x) h zero b = absurd (not-suc-le-zero b)
-parse_complete (crossed x) h (suc n) b = ap {B = Got} (λ g. g >>= repeated) (parse_complete x tt n (omega arith))
-parse_complete (asked x) h zero b = absurd (not-suc-le-zero b)
-parse_complete (asked x) h (suc n) b = ap {B = Got} (λ g. g >>= repeated) (parse_complete x tt n (omega arith))
-parse_complete variable h zero b = absurd (not-suc-le-zero b)
-parse_complete variable h (suc n) b = refl
-parse_complete (bracket x) h zero b = absurd (not-suc-le-zero b)
-parse_complete (bracket x) h (suc n) b = ap {B = Got} (λ g. g >>= closed) (parse_complete x (refl, (refl, (refl, refl, refl))) n (omega arith))
+    ap {B = Got} (λ g. g >>= joined comma seq (λ t. parse n a_sequence d t)) (parse_complete n x (refl, refl, refl) (omega arith))
+    ∙ ap {B = Got} (λ g. g >>= (λ (p : Written × List Piece). Some (seq e p.0, p.1))) (parse_complete n y h (omega arith))
+parse_complete (suc n) (plain {d = d} {s = s} {t = t} {e = e} x) h b = ap {B = Got} (λ g. g >>= repeated) (parse_complete n x tt (omega arith)) ∙ unrepeated e t h
+parse_complete (suc n) (starred x) h b = ap {B = Got} (λ g. g >>= repeated) (parse_complete n x tt (omega arith))
+parse_complete (suc n) (crossed x) h b = ap {B = Got} (λ g. g >>= repeated) (parse_complete n x tt (omega arith))
+parse_complete (suc n) (asked x) h b = ap {B = Got} (λ g. g >>= repeated) (parse_complete n x tt (omega arith))
+parse_complete (suc n) variable h b = refl
+parse_complete (suc n) (bracket x) h b = ap {B = Got} (λ g. g >>= closed) (parse_complete n x (refl, (refl, (refl, refl, refl))) (omega arith))
 
 -- contents, bodies and rules
 pub content_complete : {s : List Piece} {e : Written} {t : List Piece} → Says s e t → begins t ≡ false → Stops a_choice t → ◌≡◌ {A = Got} (content s) (Some (e, t))
 content_complete (nothing {t = t}) h k = ap {B = Got} (λ b. cond b (parse (4 + 4 * length t) a_choice deepest t) (Some (empty, t))) h
 content_complete (choice {s = s} {t = t} {e = e} x) h k =
-    ap {B = Got} (λ b. cond b (parse (4 + 4 * length s) a_choice deepest s) (Some (empty, s))) (begun x) ∙ parse_complete x k (4 + 4 * length s) (omega arith)
+    ap {B = Got} (λ b. cond b (parse (4 + 4 * length s) a_choice deepest s) (Some (empty, s))) (begun x) ∙ parse_complete (4 + 4 * length s) x k (omega arith)
 
 pub content_of_complete : {s : List Piece} {e : Written} → Says s e [] → content_of s ≡ Some e
 content_of_complete x = ap (λ (g : Got). g >>= (λ (p : Written × List Piece). at_end p.0 p.1)) (content_complete x refl (refl, (refl, (refl, refl, refl))))

@@ -1,5 +1,5 @@
 -- The functions of texts and the grammar say the same of bytes.
-use Rattle.std.proofs.Common.{◌≡◌, ℕ, ◌≤◌, Bool, true, false, cond, leb, List, length, Some, None, Option as Maybe, sym, refl, ap, ◌∙◌, le-leb, leb-true}
+use Rattle.std.proofs.Common.{◌≡◌, ℕ, ◌≤◌, Bool, true, false, cond, leb, List, length, Some, None, Option as Maybe, refl, ap, ◌∙◌, le-leb, leb-true}
 use Rattle.pieces.specs.Cutting.{pieces}
 use Rattle.pieces.proofs.Cuts.{spelled_pieces, pieces_spelled}
 use Rattle.form_grammar.specs.Grammar.{longest, Written, Rule, RuleText, StartText}
@@ -7,7 +7,7 @@ use Rattle.form_grammar.specs.Parser.{content_of, rule_of_pieces}
 use Rattle.form_grammar.specs.Texts.{rule_of, start_of}
 use Rattle.form_grammar.specs.Laws.{TextsRule, OneMeaning}
 use Rattle.form_grammar.proofs.ParserComplete.{content_of_complete, rule_complete}
-use Rattle.form_grammar.proofs.ParserFacts.{rule_ruled, content_said, some_one, none_some, no_some}
+use Rattle.form_grammar.proofs.ParserFacts.{rule_ruled, content_said}
 
 -- at most 512 bytes
 if_short : {X : Type 0} (t : List ℕ) (o : Maybe X) (x : X) → cond (leb (length t) longest) o None ≡ Some x → (length t ≤ longest) × (o ≡ Some x)
@@ -15,7 +15,7 @@ if_short t o x e = by (leb (length t) longest) refl e
   where
     by : (q : Bool) → leb (length t) longest ≡ q → cond q o None ≡ Some x → (length t ≤ longest) × (o ≡ Some x)
     by true q e = (leb-true (length t) longest q, e)
-    by false q e = absurd (none_some x e)
+    by false q e = cc
 
 -- from the function to the grammar
 pub rule_text : (t : List ℕ) (r : Rule) → rule_of t ≡ Some r → RuleText t r
@@ -48,19 +48,13 @@ texts_rule = (λ t r. (rule_text t r, rule_of_text t r), λ t e. (start_text t e
 
 pub one_meaning : OneMeaning
 one_meaning = (
-  λ t r r' x y. some_one r r' (sym (rule_of_text t r x) ∙ rule_of_text t r' y),
-  λ t e e' x y. some_one e e' (sym (start_of_text t e x) ∙ start_of_text t e' y),
+  λ t r r' x y. let f = rule_of_text t r x in let g = rule_of_text t r' y in cc,
+  λ t e e' x y. let f = start_of_text t e x in let g = start_of_text t e' y in cc,
 )
 
--- where the functions give nothing, nothing is said, and the other way round
+-- where the functions give nothing, nothing is said
 pub no_rule_text : (t : List ℕ) → rule_of t ≡ None → (r : Rule) → RuleText t r → ⊥
-no_rule_text t e r x = none_some r (sym e ∙ rule_of_text t r x)
+no_rule_text t e r x = let f = rule_of_text t r x in cc
 
 pub no_start_text : (t : List ℕ) → start_of t ≡ None → (e : Written) → StartText t e → ⊥
-no_start_text t h e x = none_some e (sym h ∙ start_of_text t e x)
-
-pub unruled_text : (t : List ℕ) → ((r : Rule) → RuleText t r → ⊥) → rule_of t ≡ None
-unruled_text t h = no_some (rule_of t) (λ r e. h r (rule_text t r e))
-
-pub unsaid_text : (t : List ℕ) → ((e : Written) → StartText t e → ⊥) → start_of t ≡ None
-unsaid_text t h = no_some (start_of t) (λ e q. h e (start_text t e q))
+no_start_text t h e x = let f = start_of_text t e x in cc

@@ -1,3 +1,2 @@
 mod Descent
-mod Finding
-mod Standing
+pub mod Finding

@@ -1,5 +1,5 @@
 -- What reading a text answers.
-use Rattle.std.specs.Prelude.{ℕ, Bool, true, false, List, ◌≤ℤ◌, ◌<ℤ◌, Some, None, Ok, Err, Option as Maybe, Result}
+use Rattle.std.specs.Prelude.{ℕ, Bool, true, false, List, ◌≤ℤ◌, ◌<ℤ◌, Ok, Err, Result}
 use Rattle.lexical.specs.declared.spelled.Word.{Word}
 use Rattle.contents.specs.declared.expression.Expression.{Expression}
 use Rattle.form_grammar.specs.Grammar.{Written, Body, branch, leaf, Rule, RuleText, StartText}
@@ -32,15 +32,6 @@ abbrev pub ReadsStart : List ℕ → Result (Expression Word) StartError → Typ
 ReadsStart t (Ok e) = StartText t (written e)
 ReadsStart t (Err start.NotOfForm) = (e : Written) → StartText t e → ⊥
 ReadsStart t (Err start.NoMemory) = Unit {0}
-
--- the same of what is found before values are compared
-abbrev pub FindsRule : List ℕ → Maybe CodeRule → Type 0
-FindsRule t (Some r) = RuleText t (said r)
-FindsRule t None = (r : Rule) → RuleText t r → ⊥
-
-abbrev pub FindsStart : List ℕ → Maybe (Expression Word) → Type 0
-FindsStart t (Some e) = StartText t (written e)
-FindsStart t None = (e : Written) → StartText t e → ⊥
 
 -- a test of a body's values
 abbrev pub TellsOrder : Bool → Body → Type 0

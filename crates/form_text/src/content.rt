@@ -1,11 +1,11 @@
-// Reads contents by recursive descent. Each function reads one kind of part from a place on, and answers its expression with the place
-// behind it, or nothing where no such part stands.
-ghost use Rattle.std.specs.Prelude.{◌≡◌, ◌≤◌, length, IfOk};
+// Reads contents by recursive descent. Each function reads one kind of part from the tokens, and answers its expression with the tokens
+// behind it, or nothing where no such part stands first.
+ghost use Rattle.std.specs.Prelude.{◌≡◌, ◌<◌, length, IfOk, IfSome};
+ghost use Rattle.pieces.specs.Tokens.{byte, pieces_of};
 ghost use Rattle.form_grammar.specs.Grammar.{a_choice, a_sequence, an_atom, an_item};
-ghost use Rattle.form_grammar.specs.Parser.{begins};
-ghost use Rattle.form_text.specs.Reads.{Parses, ReadsContent, from};
+ghost use Rattle.form_grammar.specs.Parser.{begins, content, past};
+ghost use Rattle.form_text.specs.Reads.{Parses, left, read_as, written};
 
-use crate::cursor::{past, word};
 use contents::Expression;
 use lexical::Word;
 use pieces::{Sign, Token};
@@ -14,50 +14,58 @@ use std::alloc::{AllocError, Global};
 // The most brackets inside one another.
 const DEEPEST: usize = 16;
 
+// The tokens behind a sign, if it stands first.
+fn past(tokens: &[Token], sign: Sign) -> Option<&[Token]>
+    ensures value { left result ≡ past (byte sign) (pieces_of tokens.now) }
+    ensures onward { IfSome result (λ rest. length rest.now < length tokens.now) }
+{
+    match tokens {
+        [Token::Sign(found), rest @ ..] if *found == sign => Some(rest),
+        _ => None,
+    }
+}
+
 // One sequence or more, joined by `|`.
 #[cycle(atom_choice_item_sequence)]
 fn choice(
     heap: Global,
     tokens: &[Token],
-    at: usize,
     depth: usize,
-) -> Result<Option<(Expression<Word>, usize)>, AllocError>
-    requires { at ≤ length tokens.now }
-    ensures { IfOk result (λ o. Parses a_choice depth tokens.now at o) }
+) -> Result<Option<(Expression<Word>, &[Token])>, AllocError>
+    ensures { IfOk result (λ o. Parses a_choice depth tokens.now o) }
 {
-    let Some((first, next)) = sequence(heap, tokens, at, depth)? else {
+    let Some((first, behind)) = sequence(heap, tokens, depth)? else {
         return Ok(None);
     };
-    let Some(after) = past(tokens, next, Sign::Bar) else {
-        return Ok(Some((first, next)));
+    let Some(more) = past(behind, Sign::Bar) else {
+        return Ok(Some((first, behind)));
     };
-    let Some((rest, end)) = choice(heap, tokens, after, depth)? else {
+    let Some((other, end)) = choice(heap, more, depth)? else {
         return Ok(None);
     };
-    Ok(Some((first.or(heap, rest)?, end)))
+    Ok(Some((first.or(heap, other)?, end)))
 }
 
-// One item or more, joined by `,`.
+// One item or more, joined by `,`. (`choice` with another part, sign and join: one function for both would take these three as closures,
+// and its contract would have to repeat what each of them promises.)
 #[cycle(atom_choice_item_sequence)]
 fn sequence(
     heap: Global,
     tokens: &[Token],
-    at: usize,
     depth: usize,
-) -> Result<Option<(Expression<Word>, usize)>, AllocError>
-    requires { at ≤ length tokens.now }
-    ensures { IfOk result (λ o. Parses a_sequence depth tokens.now at o) }
+) -> Result<Option<(Expression<Word>, &[Token])>, AllocError>
+    ensures { IfOk result (λ o. Parses a_sequence depth tokens.now o) }
 {
-    let Some((first, next)) = item(heap, tokens, at, depth)? else {
+    let Some((first, behind)) = item(heap, tokens, depth)? else {
         return Ok(None);
     };
-    let Some(after) = past(tokens, next, Sign::Comma) else {
-        return Ok(Some((first, next)));
+    let Some(more) = past(behind, Sign::Comma) else {
+        return Ok(Some((first, behind)));
     };
-    let Some((rest, end)) = sequence(heap, tokens, after, depth)? else {
+    let Some((next, end)) = sequence(heap, more, depth)? else {
         return Ok(None);
     };
-    Ok(Some((first.then(heap, rest)?, end)))
+    Ok(Some((first.then(heap, next)?, end)))
 }
 
 // An atom, and at most one of `*`, `+`, `?` behind it.
@@ -65,25 +73,23 @@ fn sequence(
 fn item(
     heap: Global,
     tokens: &[Token],
-    at: usize,
     depth: usize,
-) -> Result<Option<(Expression<Word>, usize)>, AllocError>
-    requires { at ≤ length tokens.now }
-    ensures { IfOk result (λ o. Parses an_item depth tokens.now at o) }
+) -> Result<Option<(Expression<Word>, &[Token])>, AllocError>
+    ensures { IfOk result (λ o. Parses an_item depth tokens.now o) }
 {
-    let Some((atom, next)) = atom(heap, tokens, at, depth)? else {
+    let Some((atom, behind)) = atom(heap, tokens, depth)? else {
         return Ok(None);
     };
-    if let Some(after) = past(tokens, next, Sign::Asterisk) {
-        return Ok(Some((atom.repeated(heap)?, after)));
+    if let Some(end) = past(behind, Sign::Asterisk) {
+        return Ok(Some((atom.repeated(heap)?, end)));
     }
-    if let Some(after) = past(tokens, next, Sign::Cross) {
-        return Ok(Some((atom.repeated_once(heap)?, after)));
+    if let Some(end) = past(behind, Sign::Cross) {
+        return Ok(Some((atom.repeated_once(heap)?, end)));
     }
-    if let Some(after) = past(tokens, next, Sign::Question) {
-        return Ok(Some((atom.omitted(heap)?, after)));
+    if let Some(end) = past(behind, Sign::Question) {
+        return Ok(Some((atom.omitted(heap)?, end)));
     }
-    Ok(Some((atom, next)))
+    Ok(Some((atom, behind)))
 }
 
 // A variable, or a choice in brackets, which may stand inside one another as deep as `depth` says.
@@ -91,48 +97,44 @@ fn item(
 fn atom(
     heap: Global,
     tokens: &[Token],
-    at: usize,
     depth: usize,
-) -> Result<Option<(Expression<Word>, usize)>, AllocError>
-    requires { at ≤ length tokens.now }
-    ensures { IfOk result (λ o. Parses an_atom depth tokens.now at o) }
+) -> Result<Option<(Expression<Word>, &[Token])>, AllocError>
+    ensures { IfOk result (λ o. Parses an_atom depth tokens.now o) }
 {
-    if let Some((variable, next)) = word(tokens, at) {
-        return Ok(Some((Expression::Item(variable), next)));
+    if let [Token::Word(variable), behind @ ..] = tokens {
+        return Ok(Some((Expression::Item(*variable), behind)));
     }
-    let Some(inside) = past(tokens, at, Sign::OpenRound) else {
+    let Some(inside) = past(tokens, Sign::OpenRound) else {
         return Ok(None);
     };
     if depth == 0 {
         return Ok(None);
     }
-    let Some((inner, next)) = choice(heap, tokens, inside, depth - 1)? else {
+    let Some((inner, behind)) = choice(heap, inside, depth - 1)? else {
         return Ok(None);
     };
-    let Some(end) = past(tokens, next, Sign::CloseRound) else {
+    let Some(end) = past(behind, Sign::CloseRound) else {
         return Ok(None);
     };
     Ok(Some((inner, end)))
 }
 
-// Whether an atom, and so a choice, begins there.
-fn begins(tokens: &[Token], at: usize) -> bool
-    ensures { result ≡ begins (from tokens.now at) }
+// Whether an atom, and so a choice, stands first.
+fn begins(tokens: &[Token]) -> bool
+    ensures { result ≡ begins (pieces_of tokens.now) }
 {
-    word(tokens, at).is_some() || past(tokens, at, Sign::OpenRound).is_some()
+    matches!(tokens, [Token::Word(_) | Token::Sign(Sign::OpenRound), ..])
 }
 
 // A content: nothing, or a choice.
 pub(crate) fn content(
     heap: Global,
     tokens: &[Token],
-    at: usize,
-) -> Result<Option<(Expression<Word>, usize)>, AllocError>
-    requires { at ≤ length tokens.now }
-    ensures { IfOk result (λ o. ReadsContent tokens.now at o) }
+) -> Result<Option<(Expression<Word>, &[Token])>, AllocError>
+    ensures { IfOk result (λ o. read_as written o ≡ content (pieces_of tokens.now)) }
 {
-    if !begins(tokens, at) {
-        return Ok(Some((Expression::Empty, at)));
+    if !begins(tokens) {
+        return Ok(Some((Expression::Empty, tokens)));
     }
-    choice(heap, tokens, at, DEEPEST)
+    choice(heap, tokens, DEEPEST)
 }

@@ -5,6 +5,7 @@ ghost use Rattle.form_text.specs.declared.errors.StartError.TheVariants as start
 
 use std::alloc::AllocError;
 
+// Two types, since a start has no values: read with `RuleError`, it would be said that it may answer `LowAboveHigh`.
 #[derive(Clone, Copy)]
 pub enum RuleError {
     // not of the form of a rule text

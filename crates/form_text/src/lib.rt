@@ -2,7 +2,6 @@
 #![tactic(auto)]
 
 mod content;
-mod cursor;
 mod errors;
 mod pieces_read;
 mod rule;

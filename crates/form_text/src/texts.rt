@@ -1,39 +1,30 @@
 // Reads rule texts and start texts.
-ghost use Rattle.std.specs.Prelude.{◌≡◌, IfOk};
-ghost use Rattle.form_text.specs.Answers.{FindsRule, FindsStart, ReadsRule, ReadsStart, TellsOrder};
+ghost use Rattle.std.specs.Prelude.{◌≡◌, ◌<◌, ◌≤◌, length, IfOk, MatchOption};
+ghost use Rattle.form_grammar.specs.Grammar.{longest};
+ghost use Rattle.form_text.specs.Answers.{ReadsRule, ReadsStart, TellsOrder};
 ghost use Rattle.form_text.specs.Reads.{body_said};
+ghost use Rattle.pieces.specs.Cutting.{pieces};
+ghost use Rattle.pieces.specs.Tokens.{pieces_of};
 
 use crate::errors::{RuleError, StartError};
 use crate::pieces_read::{rule_of, start_of};
 use crate::rule::{Body, Rule};
 use contents::Expression;
 use lexical::Word;
-use pieces::cut;
+use pieces::{Token, cut};
 use std::alloc::{AllocError, Global};
 
 // The most bytes that a text has.
 pub const LONGEST_TEXT: usize = 512;
 
-// The rule that a text says, whatever its values.
-fn find_rule(heap: Global, text: &[u8]) -> Result<Option<Rule>, AllocError>
-    ensures { IfOk result (λ o. FindsRule text.now o) }
+// The tokens of a text, unless it is too long.
+fn tokens_of(heap: Global, text: &[u8]) -> Result<Option<Vec<Token>>, AllocError>
+    ensures { IfOk result (λ o. MatchOption o (longest < length text.now) (λ v. (length text.now ≤ longest) × (pieces_of v.items ≡ pieces text.now))) }
 {
     if text.len() > LONGEST_TEXT {
         return Ok(None);
     }
-    let tokens = cut(heap, text)?;
-    rule_of(heap, &tokens)
-}
-
-// The content that a text says.
-fn find_start(heap: Global, text: &[u8]) -> Result<Option<Expression<Word>>, AllocError>
-    ensures { IfOk result (λ o. FindsStart text.now o) }
-{
-    if text.len() > LONGEST_TEXT {
-        return Ok(None);
-    }
-    let tokens = cut(heap, text)?;
-    start_of(heap, &tokens)
+    Ok(Some(cut(heap, text)?))
 }
 
 impl Body {
@@ -49,12 +40,12 @@ impl Body {
 }
 
 // The rule that a rule text says.
+#[tactic(auto, using(crate::proofs::Finding::said_rule))]
 pub fn read_rule(heap: Global, text: &[u8]) -> Result<Rule, RuleError>
     ensures { ReadsRule text.now result }
 {
-    let Some(rule) = find_rule(heap, text)? else {
-        return Err(RuleError::NotOfForm);
-    };
+    let tokens = tokens_of(heap, text)?.ok_or(RuleError::NotOfForm)?;
+    let rule = rule_of(heap, &tokens)?.ok_or(RuleError::NotOfForm)?;
     if rule.body.low_above_high() {
         return Err(RuleError::LowAboveHigh);
     }
@@ -62,11 +53,10 @@ pub fn read_rule(heap: Global, text: &[u8]) -> Result<Rule, RuleError>
 }
 
 // The content that a start text says.
+#[tactic(auto, using(crate::proofs::Finding::start_answer))]
 pub fn read_start(heap: Global, text: &[u8]) -> Result<Expression<Word>, StartError>
     ensures { ReadsStart text.now result }
 {
-    let Some(content) = find_start(heap, text)? else {
-        return Err(StartError::NotOfForm);
-    };
-    Ok(content)
+    let tokens = tokens_of(heap, text)?.ok_or(StartError::NotOfForm)?;
+    start_of(heap, &tokens)?.ok_or(StartError::NotOfForm)
 }

@@ -1,5 +1,5 @@
 -- The pieces that are computed are those that the text is cut into, and in one way only.
-use Rattle.std.proofs.Common.{◌≡◌, ℕ, Bool, true, false, cond, List, [], ◌∷◌, ◌++◌, Some, sym, refl, ap, ◌∙◌, subst, ap₂, inl, inr, arith}
+use Rattle.std.proofs.Common.{◌≡◌, ℕ, Bool, true, false, cond, List, [], ◌∷◌, ◌++◌, Some, sym, refl, ap, ◌∙◌, subst, ap₂, inl, inr}
 use Rattle.std.proofs.lemmas.Bool.{and_parts, and_from, cases_Bool}
 use Rattle.lexical.specs.declared.kinds.Kind.{Kind}
 use Rattle.lexical.specs.declared.kinds.Kind.TheVariants.{Letter, Digit, Hyphen, Point, Less, Greater, Slash, Blank, Other}
@@ -12,11 +12,11 @@ use Rattle.pieces.specs.Pieces.{Piece, sign_piece}
 use Rattle.pieces.specs.Spelling.{alone_kind, Past, Spelled, at_end, a_blank, a_word, a_number, a_sign}
 use Rattle.pieces.specs.Cutting.{carries, run_piece, front, by_first, pieces_after, pieces, PiecesRule}
 
-abbrev carried : Run → ℕ → Bool
+abbrev pub carried : Run → ℕ → Bool
 carried r b = carries r (kind b)
 
 -- the pieces from a byte on where it begins a run
-abbrev running : ℕ → List ℕ → Run → List Piece
+abbrev pub running : ℕ → List ℕ → Run → List Piece
 running b s r = run_piece r (b ∷ front r s) ∷ pieces_after (Some r) s
 
 -- One step of each definition.
@@ -73,30 +73,27 @@ after_run r (b ∷ w) s e p =
 run_first : (r : Run) (b : ℕ) (w s : List ℕ) → all (carried r) w ≡ true → Past (carries r) s → running b (w ++ s) r ≡ run_piece r (b ∷ w) ∷ pieces s
 run_first r b w s e p = ap₂ {C = List Piece} (λ v l. run_piece r (b ∷ v) ∷ l) (front_run r w s e p) (after_run r w s e p)
 
-false_true : false ≡ true → ⊥
-false_true e = let z : ◌≡◌ {A = ℕ} 0 1 = cc in omega arith
-
 -- the kinds that begin a number, and those that stand alone
-figure_first : (k : Kind) (p : Piece) (ps : List Piece) (y : Run → List Piece) → figure_kind k ≡ true → by_first k p ps y ≡ y Number
-figure_first Letter p ps y e = absurd (false_true e)
+pub figure_first : (k : Kind) (p : Piece) (ps : List Piece) (y : Run → List Piece) → figure_kind k ≡ true → by_first k p ps y ≡ y Number
+figure_first Letter p ps y e = cc
 figure_first Digit p ps y e = refl
 figure_first Hyphen p ps y e = refl
 figure_first Point p ps y e = refl
-figure_first Less p ps y e = absurd (false_true e)
-figure_first Greater p ps y e = absurd (false_true e)
-figure_first Slash p ps y e = absurd (false_true e)
-figure_first Blank p ps y e = absurd (false_true e)
-figure_first Other p ps y e = absurd (false_true e)
+figure_first Less p ps y e = cc
+figure_first Greater p ps y e = cc
+figure_first Slash p ps y e = cc
+figure_first Blank p ps y e = cc
+figure_first Other p ps y e = cc
 
-alone_first : (k : Kind) (p : Piece) (ps : List Piece) (y : Run → List Piece) → alone_kind k ≡ true → by_first k p ps y ≡ p ∷ ps
-alone_first Letter p ps y e = absurd (false_true e)
-alone_first Digit p ps y e = absurd (false_true e)
-alone_first Hyphen p ps y e = absurd (false_true e)
-alone_first Point p ps y e = absurd (false_true e)
+pub alone_first : (k : Kind) (p : Piece) (ps : List Piece) (y : Run → List Piece) → alone_kind k ≡ true → by_first k p ps y ≡ p ∷ ps
+alone_first Letter p ps y e = cc
+alone_first Digit p ps y e = cc
+alone_first Hyphen p ps y e = cc
+alone_first Point p ps y e = cc
 alone_first Less p ps y e = refl
 alone_first Greater p ps y e = refl
 alone_first Slash p ps y e = refl
-alone_first Blank p ps y e = absurd (false_true e)
+alone_first Blank p ps y e = cc
 alone_first Other p ps y e = refl
 
 pub spelled_pieces : {t : List ℕ} {ps : List Piece} → Spelled t ps → pieces t ≡ ps

@@ -1,75 +1,83 @@
--- One lemma for each way through the loops that cut a text.
-use Rattle.std.proofs.Common.{◌≡◌, ℕ, ◌+◌, ◌-◌, ◌<◌, ◌≤◌, true, false, List, [], ◌∷◌, ◌++◌, length, get_or, take, drop, Some, Option as Maybe, sym, ap, ◌∙◌, arith}
-use Rattle.std.proofs.lemmas.List.{append-nil, append_assoc, map-append, length-drop, get_or-drop, take_more, at_drop_more, at_drop_all}
+-- One lemma for each way through the functions that cut a text.
+use Rattle.std.proofs.Common.{◌≡◌, ℕ, suc, ◌+◌, true, cond, ◌⊎◌, List, [], ◌∷◌, length, take, drop, Some, None, Option as Maybe, refl, sym, ap, ◌∙◌, inl, inr, arith}
+use Rattle.std.proofs.lemmas.Bool.{cases_Bool}
+use Rattle.std.proofs.lemmas.List.Sums.{take_while-cons}
+use Rattle.std.specs.List.{prefix_len}
 use Rattle.lexical.specs.declared.kinds.Kind.{Kind}
+use Rattle.lexical.specs.declared.kinds.Kind.TheVariants.{Letter, Digit, Hyphen, Point, Less, Greater, Slash, Blank, Other}
 use Rattle.lexical.specs.Kinds.{kind}
+use Rattle.lexical.specs.Numbers.{figure_kind}
 use Rattle.pieces.specs.declared.run.Run.{Run}
+use Rattle.pieces.specs.declared.run.Run.TheVariants.{Word, Number}
 use Rattle.pieces.specs.declared.token.Token.{Token}
-use Rattle.pieces.specs.Pieces.{Piece}
-use Rattle.pieces.specs.Cutting.{carries, front, pieces_after, pieces}
-use Rattle.pieces.specs.Tokens.{piece, pieces_of}
-use Rattle.pieces.specs.Lexemes.{before, run_bytes, pieces_by}
-use Rattle.pieces.proofs.Cuts.{front_nil, front_on, front_off, pieces_nil, after_nil, pieces_step, after_on, after_off}
+use Rattle.pieces.specs.Pieces.{Piece, sign_piece}
+use Rattle.pieces.specs.Spelling.{alone_kind}
+use Rattle.pieces.specs.Cutting.{carries, run_piece, front, by_first, pieces_after, pieces}
+use Rattle.pieces.specs.Tokens.{piece}
+use Rattle.pieces.specs.Lexemes.{before, Leads}
+use Rattle.pieces.proofs.Cuts.{running, carried, front_nil, front_on, after_nil, after_on, after_off, pieces_nil, pieces_step, figure_first, alone_first}
 
--- The end of a run that begins at `at`: its bytes up to i, and what goes on from there.
-module _ (r : Run) (t : List ℕ) (at : ℕ) where
-  abbrev so_far : ℕ → List ℕ
-  so_far i = take (i - at) (drop at t)
+-- The bytes of a run, and the text behind them.
 
-  pub run_begins : at < length t → so_far (at + 1) ++ front r (drop (at + 1) t) ≡ run_bytes r t at
-  run_begins h =
-      let n : at + 1 - at ≡ 1 = omega arith in
-      ap (λ l. l ++ front r (drop (at + 1) t)) (ap (λ m. take m (drop at t)) n ∙ at_drop_more (take 1) t at 0 h)
+pub run_bytes : (r : Run) (t : List ℕ) → take (prefix_len (carried r) t) t ≡ front r t
+unfolding front
+run_bytes r [] = sym (front_nil r)
+run_bytes r (b ∷ s) = take_while-cons (carried r) b s ∙ ap (λ l. cond (carried r b) (b ∷ l) []) (run_bytes r s)
 
-  module _ (i : ℕ) (l : at < i) (h : i < length t) where
-    more : so_far (i + 1) ≡ so_far i ++ get_or t i 0 ∷ []
-    more =
-        let n : i + 1 - at ≡ (i - at) + 1 = omega arith in
-        let m : at + (i - at) ≡ i = omega arith in
-        ap (λ m. take m (drop at t)) n
-        ∙ (take_more (drop at t) (i - at) 0 (omega (arith, length-drop at t))
-        ∙ ap (λ b. so_far i ++ b ∷ []) (get_or-drop at t (i - at) 0 ∙ ap (λ m. get_or t m 0) m))
+pub run_rest : (r : Run) (t : List ℕ) → pieces (drop (prefix_len (carried r) t) t) ≡ pieces_after (Some r) t
+run_rest r [] = pieces_nil ∙ sym (after_nil r)
+run_rest r (b ∷ s) =
+    let n = prefix_len (carried r) s in
+    let one : 1 + n ≡ suc n = omega arith in
+    elim (cases_Bool (carried r b)) [
+      | inl e ↦ ap (λ x. pieces (drop (cond x (1 + n) 0) (b ∷ s))) e ∙ ap (λ k. pieces (drop k (b ∷ s))) one ∙ run_rest r s ∙ sym (after_on r b s e)
+      | inr e ↦ ap (λ x. pieces (drop (cond x (1 + n) 0) (b ∷ s))) e ∙ sym (after_off r b s e)
+    ]
 
-    pub run_grows : carries r (kind (get_or t i 0)) ≡ true → so_far (i + 1) ++ front r (drop (i + 1) t) ≡ so_far i ++ front r (drop i t)
-    run_grows e =
-        ap (λ l. l ++ front r (drop (i + 1) t)) more
-        ∙ (append_assoc (so_far i) (get_or t i 0 ∷ []) (front r (drop (i + 1) t))
-        ∙ ap (λ l. so_far i ++ l) (sym (at_drop_more (front r) t i 0 h ∙ front_on r (get_or t i 0) (drop (i + 1) t) e)))
+pub no_pieces : (t : List ℕ) → length t ≡ 0 → pieces t ≡ []
+no_pieces [] e = pieces_nil
+no_pieces (b ∷ s) e = absurd (omega arith)
 
-    pub after_grows : carries r (kind (get_or t i 0)) ≡ true → pieces_after (Some r) (drop i t) ≡ pieces_after (Some r) (drop (i + 1) t)
-    after_grows e = at_drop_more (pieces_after (Some r)) t i 0 h ∙ after_on r (get_or t i 0) (drop (i + 1) t) e
+-- A text that begins with a byte b.
+module _ {t : List ℕ} {b : ℕ} {s : List ℕ} (f : t ≡ b ∷ s) where
+  leads_run : (r : Run) {x : Maybe Token} {rest : List ℕ} → carries r (kind b) ≡ true → by_first (kind b) (sign_piece b) (pieces s) (running b s) ≡ running b s r
+      → length (front r t) + length rest ≡ length t → before x (pieces rest) ≡ run_piece r (front r t) ∷ pieces_after (Some r) t → Leads t x rest
+  leads_run r {x} {rest} e k l q =
+      let on : front r t ≡ b ∷ front r s = ap (front r) f ∙ front_on r b s e in
+      let after : pieces_after (Some r) t ≡ pieces_after (Some r) s = ap (pieces_after (Some r)) f ∙ after_on r b s e in
+      record {
+        shorter = omega (arith, ap length on);
+        same = ap pieces f ∙ pieces_step b s (kind b) refl ∙ k ∙ sym (q ∙ ap (λ w. run_piece r w ∷ pieces_after (Some r) t) on ∙ ap {B = List Piece} (λ ps. run_piece r (b ∷ front r s) ∷ ps) after);
+      }
 
-    pub run_stops : carries r (kind (get_or t i 0)) ≡ false → so_far i ≡ so_far i ++ front r (drop i t)
-    run_stops e =
-        sym (ap (λ l. so_far i ++ l) (at_drop_more (front r) t i 0 h ∙ front_off r (get_or t i 0) (drop (i + 1) t) e) ∙ append-nil (so_far i))
+  pub leads_word : {k : Kind} {x : Maybe Token} {rest : List ℕ} → k ≡ kind b → k ≡ Letter
+      → length (front Word t) + length rest ≡ length t → before x (pieces rest) ≡ run_piece Word (front Word t) ∷ pieces_after (Some Word) t → Leads t x rest
+  leads_word e h l q =
+      let here : kind b ≡ Letter = sym e ∙ h in
+      leads_run Word (ap (carries Word) here) (ap (λ k. by_first k (sign_piece b) (pieces s) (running b s)) here) l q
 
-    pub after_stops : carries r (kind (get_or t i 0)) ≡ false → pieces_after (Some r) (drop i t) ≡ pieces (drop i t)
-    after_stops e =
-        at_drop_more (pieces_after (Some r)) t i 0 h
-        ∙ (after_off r (get_or t i 0) (drop (i + 1) t) e ∙ sym (at_drop_more pieces t i 0 h))
+  pub leads_number : {k : Kind} {x : Maybe Token} {rest : List ℕ} → k ≡ kind b → (k ≡ Digit) ⊎ ((k ≡ Hyphen) ⊎ (k ≡ Point))
+      → length (front Number t) + length rest ≡ length t → before x (pieces rest) ≡ run_piece Number (front Number t) ∷ pieces_after (Some Number) t → Leads t x rest
+  leads_number {k} e h l q =
+      let here : figure_kind (kind b) ≡ true = ap figure_kind (sym e) ∙ figures h in
+      leads_run Number here (figure_first (kind b) (sign_piece b) (pieces s) (running b s) here) l q
+    where
+      figures : (k ≡ Digit) ⊎ ((k ≡ Hyphen) ⊎ (k ≡ Point)) → figure_kind k ≡ true
+      figures (inl i) = ap figure_kind i
+      figures (inr (inl i)) = ap figure_kind i
+      figures (inr (inr i)) = ap figure_kind i
 
-  module _ (i : ℕ) (e : i ≡ length t) where
-    pub run_ends : so_far (length t) ≡ so_far i ++ front r (drop i t)
-    run_ends =
-        ap so_far (sym e)
-        ∙ sym (ap (λ l. so_far i ++ l) (at_drop_all (front r) t i (omega arith) ∙ front_nil r) ∙ append-nil (so_far i))
+  leads_on : {k : Kind} {x : Maybe Token} → k ≡ kind b → by_first k (sign_piece b) (pieces s) (running b s) ≡ before x (pieces s) → Leads t x s
+  leads_on {k} e h = record { shorter = omega (arith, ap length f); same = ap pieces f ∙ pieces_step b s k (sym e) ∙ h }
 
-    pub after_ends : pieces_after (Some r) (drop i t) ≡ pieces (drop (length t) t)
-    after_ends =
-        at_drop_all (pieces_after (Some r)) t i (omega arith)
-        ∙ (after_nil r ∙ sym (at_drop_all pieces t (length t) (omega arith) ∙ pieces_nil))
+  pub leads_blank : {k : Kind} → k ≡ kind b → k ≡ Blank → Leads t None s
+  leads_blank e h = leads_on (sym h ∙ e) refl
 
--- The pieces from a place on, by the kind of the byte there.
-pub pieces_at : (t : List ℕ) (at : ℕ) (k : Kind) → at < length t → k ≡ kind (get_or t at 0) → pieces (drop at t) ≡ pieces_by k t at
-pieces_at t at k h e = at_drop_more pieces t at 0 h ∙ pieces_step (get_or t at 0) (drop (at + 1) t) k (sym e)
-
--- A token more.
-pub one_more : (xs ys : List Token) (x : Token) (o : Maybe Token) (ps qs all : List Piece) → o ≡ Some x → ps ≡ before o qs → ys ≡ xs ++ x ∷ [] → pieces_of xs ++ ps ≡ all → pieces_of ys ++ qs ≡ all
-one_more xs ys x o ps qs all e f g h =
-    ap (λ l. pieces_of l ++ qs) g
-    ∙ (ap (λ l. l ++ qs) (map-append piece xs (x ∷ []))
-    ∙ (append_assoc (pieces_of xs) (piece x ∷ []) qs ∙ (ap (λ l. pieces_of xs ++ l) (sym (f ∙ ap (λ v. before v qs) e)) ∙ h)))
-
--- The end of the text.
-pub no_more : (xs : List Token) (t : List ℕ) (at : ℕ) → length t ≤ at → pieces_of xs ++ pieces (drop at t) ≡ pieces t → pieces_of xs ≡ pieces t
-no_more xs t at h e = sym (append-nil (pieces_of xs)) ∙ (ap (λ l. pieces_of xs ++ l) (sym (at_drop_all pieces t at h ∙ pieces_nil)) ∙ e)
+  pub leads_sign : {k : Kind} {x : Token} → k ≡ kind b → (k ≡ Less) ⊎ ((k ≡ Greater) ⊎ ((k ≡ Slash) ⊎ (k ≡ Other))) → piece x ≡ sign_piece b → Leads t (Some x) s
+  leads_sign {k} {x} e h q = leads_on e (alone_first k (sign_piece b) (pieces s) (running b s) (alone h) ∙ ap {B = List Piece} (λ p. p ∷ pieces s) (sym q))
+    where
+      alone : (k ≡ Less) ⊎ ((k ≡ Greater) ⊎ ((k ≡ Slash) ⊎ (k ≡ Other))) → alone_kind k ≡ true
+      alone (inl i) = ap alone_kind i
+      alone (inr (inl i)) = ap alone_kind i
+      alone (inr (inr (inl i))) = ap alone_kind i
+      alone (inr (inr (inr i))) = ap alone_kind i

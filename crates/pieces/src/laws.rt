@@ -2,8 +2,6 @@
 ghost use Rattle.pieces.specs.Cutting.{PiecesRule};
 
 // `pieces` are what a text is cut into, and it is cut in one way only.
-pub fn pieces_rule() -> u8
+pub fn pieces_rule()
     ensures { PiecesRule }
-{
-    0
-}
+{}

@@ -1,13 +1,13 @@
 // Runs: the pieces that go on over several bytes.
 ghost use Rattle.std.specs.Prelude.{◌≡◌};
-ghost use Rattle.pieces.specs.Pieces.{word_piece, number_piece};
 ghost use Rattle.pieces.specs.Cutting.{carries, run_piece};
 ghost use Rattle.pieces.specs.Tokens.{piece};
 
 use crate::token::Token;
 use lexical::{Kind, Word, number};
 
-// The two that there are.
+// The two that there are. (An enum: the definitions of pieces are by it, and in its place a closure for the kinds and one for the token
+// would have to go through each call together.)
 #[derive(Clone, Copy)]
 pub enum Run {
     Word,
@@ -20,8 +20,8 @@ impl Run {
         ensures { result ≡ carries self kind }
     {
         match self {
-            Run::Word => matches!(kind, Kind::Letter | Kind::Digit | Kind::Hyphen),
-            Run::Number => matches!(kind, Kind::Digit | Kind::Hyphen | Kind::Point),
+            Run::Word => kind.continues_word(),
+            Run::Number => kind.in_number(),
         }
     }
 
@@ -30,28 +30,8 @@ impl Run {
         ensures { piece result ≡ run_piece self bytes.now }
     {
         match self {
-            Run::Word => word_of(bytes),
-            Run::Number => number_of(bytes),
+            Run::Word => Word::new(bytes).map_or(Token::Unfit, Token::Word),
+            Run::Number => number(bytes).map_or(Token::Unfit, Token::Number),
         }
-    }
-}
-
-// The word that the bytes are, if they are one: a run may be too long.
-fn word_of(bytes: &[u8]) -> Token
-    ensures { piece result ≡ word_piece bytes.now }
-{
-    match Word::new(bytes) {
-        Some(word) => Token::Word(word),
-        None => Token::Unfit,
-    }
-}
-
-// The number that the bytes are, if they are one.
-fn number_of(bytes: &[u8]) -> Token
-    ensures { piece result ≡ number_piece bytes.now }
-{
-    match number(bytes) {
-        Some(value) => Token::Number(value),
-        None => Token::Unfit,
     }
 }
