@@ -1,10 +1,10 @@
 -- What the layout derives is a good block with those nodes.
 use Rattle.std.proofs.Common.{◌≡◌, ℕ, zero, suc, ◌+◌, ◌*◌, ◌<◌, true, cond, eqb, ltb, List, [], ◌∷◌, ◌++◌, map, length, get_or, take, drop, ℤ, nat_abs, Some, None, sym, refl, ap, ◌∙◌, add-one, arith}
-use Rattle.std.specs.List.{range_with_len}
+use Rattle.std.specs.List.{range_with_len, list_all}
 use Rattle.std.proofs.lemmas.List.{drop_at, drop-drop, get_or-drop, take_at}
 use Rattle.std.proofs.lemmas.Bool.{and_from, le-leb, lt-ltb}
 use Rattle.lexical.specs.Rounding.{hundredths}
-use Rattle.lexical.specs.Words.{all, word}
+use Rattle.lexical.specs.Words.{word}
 use Rattle.records.specs.Nodes.{Node}
 use Rattle.blocks.specs.Layout.{greatest_thousandths, branch, leaf, number32, Names, no_name, a_name, Rows, no_row, a_branch, a_leaf}
 use Rattle.blocks.specs.Places.{name_count, name_start, name_of, node_start, name_number, node_depth, node_kind, node_thousandths, node_value, node_at, node_fits, size_fits}
@@ -19,7 +19,7 @@ module _ (bs : List ℕ) (at : ℕ) (xs : List ℕ) (h : drop at bs ≡ xs) wher
 
 -- the names from number k on are ws, and rest follows them
 pub record Reads (bs : List ℕ) (k : ℕ) (ws : List (List ℕ)) (rest : List ℕ) : Type 0 where
-  pub words : all (λ i. word (name_of bs i)) (range_with_len k (length ws)) ≡ true
+  pub words : list_all (λ i. word (name_of bs i)) (range_with_len k (length ws)) ≡ true
   pub named : (j i : ℕ) → k + j ≡ i → j < length ws → name_of bs i ≡ get_or ws j []
   pub after : (n : ℕ) → k + length ws ≡ n → drop (name_start bs n) bs ≡ rest
 
@@ -51,7 +51,7 @@ names_read (a_name w xs ws rest is_IsWord more) bs k h =
 -- under names that are read so, the nodes from number i on are ns, and nothing follows them
 module _ (bs : List ℕ) (ws : List (List ℕ)) (count : name_count bs ≡ length ws) (named : (j : ℕ) → j < length ws → name_of bs j ≡ get_or ws j []) where
   pub record Tells (i : ℕ) (ys : List ℕ) (ns : List Node) : Type 0 where
-    pub fit : all (λ j. node_fits bs (name_count bs) (node_start bs j)) (range_with_len i (length ns)) ≡ true
+    pub fit : list_all (λ j. node_fits bs (name_count bs) (node_start bs j)) (range_with_len i (length ns)) ≡ true
     pub nodes : map (λ j. node_at bs (node_start bs j)) (range_with_len i (length ns)) ≡ ns
     pub size : length ys ≡ 7 * length ns
 

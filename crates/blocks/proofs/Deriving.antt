@@ -1,10 +1,10 @@
 -- A good block is derived by the layout.
 use Rattle.std.proofs.Common.{◌≡◌, ℕ, zero, suc, ◌+◌, ◌*◌, ◌<◌, ◌≤◌, true, false, cond, ◌&&◌, eqb, ltb, leb, List, [], ◌∷◌, ◌++◌, map, length, get_or, drop, ℤ, pos, negsuc, nat_abs, Some, None, Option, sym, refl, ap, ◌∙◌, subst, add-one, arith, length-drop}
-use Rattle.std.specs.List.{range_with_len}
+use Rattle.std.specs.List.{range_with_len, list_all}
 use Rattle.std.proofs.lemmas.List.{drop_all, drop-drop, drop_more, get_or-drop, length-take-le, take-append-drop}
 use Rattle.std.proofs.lemmas.Bool.{and_parts, eqb-true, leb-true, ltb-true}
 use Rattle.lexical.specs.Rounding.{hundredths}
-use Rattle.lexical.specs.Words.{all, word}
+use Rattle.lexical.specs.Words.{word}
 use Rattle.records.specs.Nodes.{Node}
 use Rattle.blocks.specs.Layout.{greatest_thousandths, branch, leaf, Names, no_name, a_name, Rows, no_row, a_branch, a_leaf}
 use Rattle.blocks.specs.Places.{name_count, name_start, name_at, name_of, node_start, name_number, node_depth, node_kind, node_thousandths, node_at, node_fits}
@@ -31,7 +31,7 @@ names_as : {ws : List (List ℕ)} {xs ys rest tail : List ℕ} → xs ≡ ys →
 names_as {ws = ws} {ys = ys} {rest = rest} p q d = subst (λ (t : List ℕ). Names ys ws t) q (subst (λ (t : List ℕ). Names t ws rest) p d)
 
 -- n names from number k on, where all of them are words and lie within the block
-pub names_derive : (bs : List ℕ) (n k m : ℕ) → k + n ≡ m → all (λ j. word (name_of bs j)) (range_with_len k n) ≡ true → name_start bs m ≤ length bs → Names (drop (name_start bs k) bs) (map (name_of bs) (range_with_len k n)) (drop (name_start bs m) bs)
+pub names_derive : (bs : List ℕ) (n k m : ℕ) → k + n ≡ m → list_all (λ j. word (name_of bs j)) (range_with_len k n) ≡ true → name_start bs m ≤ length bs → Names (drop (name_start bs k) bs) (map (name_of bs) (range_with_len k n)) (drop (name_start bs m) bs)
 names_derive bs zero k m e h l = names_as refl (ap (λ (i : ℕ). drop (name_start bs i) bs) (let q : k ≡ m = omega arith in q)) (no_name (drop (name_start bs k) bs))
 names_derive bs (suc n) k m e h l =
     let at = name_start bs k in
@@ -107,7 +107,7 @@ module _ (bs : List ℕ) (ws : List (List ℕ)) (count : name_count bs ≡ lengt
         ]) refl parts.1
 
   -- n nodes from number i on, where all of them fit and nothing follows them
-  pub rows_derive : (n i : ℕ) → all (λ j. node_fits bs (name_count bs) (node_start bs j)) (range_with_len i n) ≡ true → node_start bs i + 7 * n ≡ length bs → Rows ws (drop (node_start bs i) bs) (map (λ j. node_at bs (node_start bs j)) (range_with_len i n))
+  pub rows_derive : (n i : ℕ) → list_all (λ j. node_fits bs (name_count bs) (node_start bs j)) (range_with_len i n) ≡ true → node_start bs i + 7 * n ≡ length bs → Rows ws (drop (node_start bs i) bs) (map (λ j. node_at bs (node_start bs j)) (range_with_len i n))
   rows_derive zero i h l = rows_as (sym (drop_all (node_start bs i) bs (omega arith))) refl no_row
   rows_derive (suc n) i h l =
       let at = node_start bs i in

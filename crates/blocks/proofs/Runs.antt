@@ -1,10 +1,10 @@
 -- The nodes of a block, one after another.
 use Rattle.std.proofs.Common.{◌≡◌, ℕ, zero, suc, ◌+◌, ◌-◌, ◌<◌, ◌≤◌, Bool, true, false, cond, ◌&&◌, eqb, ltb, leb, List, map, length, take, drop, ℤ, pos, negsuc, neg_ℤ, nat_abs, Some, None, Option, sym, refl, ap, ◌∙◌, arith}
-use Rattle.std.specs.List.{range_with_len}
+use Rattle.std.specs.List.{range_with_len, list_all}
 use Rattle.std.proofs.lemmas.List.{take_rest}
 use Rattle.std.proofs.lemmas.Bool.{and_parts, eq-eqb, le-leb, leb-true, ltb-true}
 use Rattle.lexical.specs.Rounding.{hundredths, nearest}
-use Rattle.lexical.specs.Words.{all, word}
+use Rattle.lexical.specs.Words.{word}
 use Rattle.records.specs.Limits.{greatest_value, most_levels, most_nodes}
 use Rattle.records.specs.Nodes.{next_depth, ranged, shaped}
 use Rattle.blocks.specs.Layout.{branch, greatest_thousandths, leaf, most_names}
@@ -57,14 +57,14 @@ module _ (bs : List ℕ) (words : all_words bs (name_count bs) ≡ true) where
   fit_ranged at h = value_ranged (node_kind bs at) (node_thousandths bs at) (and_parts (ltb (name_number bs at) (name_count bs)) _ h).1
 
   -- a run that fits is one of nodes that fit, in the shape of records
-  run_is : (m i k : ℕ) → run bs m i k ≡ (all (λ j. node_fits bs (name_count bs) (node_start bs j)) (range_with_len i k) && shaped m (map (λ j. node_at bs (node_start bs j)) (range_with_len i k)))
+  run_is : (m i k : ℕ) → run bs m i k ≡ (list_all (λ j. node_fits bs (name_count bs) (node_start bs j)) (range_with_len i k) && shaped m (map (λ j. node_at bs (node_start bs j)) (range_with_len i k)))
   run_is m i zero = refl
   run_is m i (suc k) =
       let at = node_start bs i in
       let x = leb (node_depth bs at) m in
       let y = ltb (node_depth bs at) most_levels in
       let rest = map (λ j. node_at bs (node_start bs j)) (range_with_len (i + 1) k) in
-      let A = all (λ j. node_fits bs (name_count bs) (node_start bs j)) (range_with_len (i + 1) k) in
+      let A = list_all (λ j. node_fits bs (name_count bs) (node_start bs j)) (range_with_len (i + 1) k) in
       let R = run bs (next_room bs at) (i + 1) k in
       let S = shaped (next_depth (node_value bs at) (node_depth bs at)) rest in
       let w = word (name_of bs (name_number bs at)) in

@@ -1,8 +1,8 @@
 -- The layout by places in the bytes, for what has to compute: where each name and each node starts, and whether a block is good.
 -- A byte past the end reads as 0.
 use Rattle.std.specs.Prelude.{ℕ, zero, suc, ◌+◌, ◌*◌, Bool, cond, ◌&&◌, List, map, length, take, drop, ℤ, Some, None, Option, ◌==◌, nat_le, nat_lt, slice_index, unsigned_abs}
-use Rattle.std.specs.List.{range_with_len}
-use Rattle.lexical.specs.Words.{all, word}
+use Rattle.std.specs.List.{range_with_len, list_all}
+use Rattle.lexical.specs.Words.{word}
 use Rattle.lexical.specs.Rounding.{hundredths}
 use Rattle.records.specs.Limits.{most_nodes}
 use Rattle.records.specs.Nodes.{Node, shaped}
@@ -80,11 +80,11 @@ node_fits bs names at = nat_lt (name_number bs at) names && size_fits (node_kind
 
 -- the first n names are words
 abbrev pub all_words : List ℕ → ℕ → Bool
-all_words bs n = all (λ k. word (name_of bs k)) (range_with_len 0 n)
+all_words bs n = list_all (λ k. word (name_of bs k)) (range_with_len 0 n)
 
 -- the first n nodes fit
 abbrev pub all_fit : List ℕ → ℕ → Bool
-all_fit bs n = all (λ i. node_fits bs (name_count bs) (node_start bs i)) (range_with_len 0 n)
+all_fit bs n = list_all (λ i. node_fits bs (name_count bs) (node_start bs i)) (range_with_len 0 n)
 
 -- few enough names, each a word; few enough nodes, and nothing after the last; nodes that fit, in the shape of records
 abbrev pub good_block : List ℕ → Bool

@@ -2,8 +2,6 @@
 ghost use Rattle.blocks.specs.Laws.{BlockRule};
 
 // The blocks that `take` accepts are those of the layout, with its nodes.
-pub fn block_rule() -> u8
+pub fn block_rule()
     ensures { BlockRule }
-{
-    0
-}
+{}

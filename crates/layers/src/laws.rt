@@ -2,57 +2,41 @@
 ghost use Rattle.layers.specs.Laws.{CutNothing, CutWhole, CuttingTakes, HiddenAndKept, HiddenOnce, HidingKeeps, NonWordHidesNothing, OneSelection};
 
 // What is selected is one list.
-pub fn one_selection() -> u8
+pub fn one_selection()
     ensures { OneSelection }
-{
-    0
-}
+{}
 
 // Hiding keeps the nodes that have no node of the name above them and are none themselves.
-pub fn hiding_keeps() -> u8
+pub fn hiding_keeps()
     ensures { HidingKeeps }
-{
-    0
-}
+{}
 
 // Cutting takes a node and all beneath it.
-pub fn cutting_takes() -> u8
+pub fn cutting_takes()
     ensures { CuttingTakes }
-{
-    0
-}
+{}
 
 // A name that is no word hides nothing.
-pub fn non_word_hides_nothing() -> u8
+pub fn non_word_hides_nothing()
     ensures { NonWordHidesNothing }
-{
-    0
-}
+{}
 
 // Hiding twice is hiding once.
-pub fn hidden_once() -> u8
+pub fn hidden_once()
     ensures { HiddenOnce }
-{
-    0
-}
+{}
 
 // The nodes that are kept and those that are hidden are together as many as there are.
-pub fn hidden_and_kept() -> u8
+pub fn hidden_and_kept()
     ensures { HiddenAndKept }
-{
-    0
-}
+{}
 
 // A record of one tree, cut at its first node, is that record.
-pub fn cut_whole() -> u8
+pub fn cut_whole()
     ensures { CutWhole }
-{
-    0
-}
+{}
 
 // Cut at a node that is not there, nothing is left.
-pub fn cut_nothing() -> u8
+pub fn cut_nothing()
     ensures { CutNothing }
-{
-    0
-}
+{}

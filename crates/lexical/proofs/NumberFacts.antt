@@ -1,15 +1,15 @@
 -- Numbers: the decision and the grammar agree; the bytes of a number, and its bounds.
 use Rattle.std.proofs.Common.{◌≡◌, ℕ, zero, suc, ◌+◌, ◌-◌, ◌*◌, ◌^◌, ◌<◌, ◌≤◌, Bool, true, false, cond, ◌&&◌, eqb, leb, ltb, ◌⊎◌, List, [], ◌∷◌, ◌++◌, length, get_or, take, drop, ℤ, pos, negsuc, neg_ℤ, ◌≤ℤ◌, Some, None, Option as Maybe, sym, refl, ap, ◌∙◌, subst, inl, inr, pow-suc, add-one, arith}
 use native.Mathlib.Nat.{pow-le-pow_right}
+use Rattle.std.proofs.lemmas.List.Folds.{list_all-append}
 use Rattle.std.proofs.lemmas.List.{append-nil, take-append-drop, take_at, drop_at}
-use Rattle.std.specs.List.{position, position_or_len}
+use Rattle.std.specs.List.{position, position_or_len, list_all}
 use Rattle.std.specs.Option.{unwrap_or}
 use Rattle.std.proofs.lemmas.List.Sums.{prefix_len-le-length}
 use Rattle.std.proofs.lemmas.List.Recursion.{is_position_or_len}
 use Rattle.std.proofs.lemmas.Int.{ints}
 use Rattle.std.proofs.lemmas.Bool.{leb-true, ltb-false, le-leb, lt-leb, eqb-true, ne_eqb, and_parts, and_from, and_left, and_right, cases_Bool}
 use Rattle.lexical.specs.Kinds.{digit, kind}
-use Rattle.lexical.specs.Words.{all}
 use Rattle.lexical.specs.Rounding.{nearest, hundredths}
 use Rattle.lexical.specs.Numbers.{most_whole, most_fraction, figures, decimal, scaled, Thousandths, plain, parted, Number, positive, negative, valued, first_point, in_thousandths, fraction, together, thousandths, has_minus, signed, with_sign, exact, rounded, number, Means, NumberRule, figure_kind, WorkedNumbers}
 use Rattle.lexical.proofs.KindFacts.{digit_range, digit_kind}
@@ -19,18 +19,18 @@ some_one x y e = cc
 
 -- one to m digits, as facts
 module _ (m : ℕ) (ds : List ℕ) where
-  pub figures_are : figures m ds ≡ true → (1 ≤ length ds) × (length ds ≤ m) × (all digit ds ≡ true)
+  pub figures_are : figures m ds ≡ true → (1 ≤ length ds) × (length ds ≤ m) × (list_all digit ds ≡ true)
   unfolding figures
   figures_are e =
-      let p = and_parts (leb 1 (length ds)) (leb (length ds) m && all digit ds) e in
-      let q = and_parts (leb (length ds) m) (all digit ds) p.1 in
+      let p = and_parts (leb 1 (length ds)) (leb (length ds) m && list_all digit ds) e in
+      let q = and_parts (leb (length ds) m) (list_all digit ds) p.1 in
       (leb-true 1 (length ds) p.0, leb-true (length ds) m q.0, q.1)
 
-  pub valued_yes : 1 ≤ length ds → length ds ≤ m → all digit ds ≡ true → valued m ds ≡ Some (decimal 0 ds)
+  pub valued_yes : 1 ≤ length ds → length ds ≤ m → list_all digit ds ≡ true → valued m ds ≡ Some (decimal 0 ds)
   unfolding figures
   valued_yes h l e =
       ap (λ b. cond b (Some (decimal 0 ds)) None)
-      (and_from (leb 1 (length ds)) _ (le-leb 1 (length ds) h) (and_from (leb (length ds) m) (all digit ds) (le-leb (length ds) m l) e))
+      (and_from (leb 1 (length ds)) _ (le-leb 1 (length ds) h) (and_from (leb (length ds) m) (list_all digit ds) (le-leb (length ds) m l) e))
 
   pub valued_empty : length ds ≡ 0 → valued m ds ≡ None
   unfolding figures
@@ -40,13 +40,13 @@ module _ (m : ℕ) (ds : List ℕ) where
   unfolding figures
   valued_long h =
       ap (λ b. cond b (Some (decimal 0 ds)) None)
-      (and_right (leb 1 (length ds)) _ (and_left (leb (length ds) m) (all digit ds) (lt-leb (length ds) m h)))
+      (and_right (leb 1 (length ds)) _ (and_left (leb (length ds) m) (list_all digit ds) (lt-leb (length ds) m h)))
 
-  pub valued_stray : all digit ds ≡ false → valued m ds ≡ None
+  pub valued_stray : list_all digit ds ≡ false → valued m ds ≡ None
   unfolding figures
   valued_stray e =
       ap (λ b. cond b (Some (decimal 0 ds)) None)
-      (and_right (leb 1 (length ds)) _ (and_right (leb (length ds) m) (all digit ds) e))
+      (and_right (leb 1 (length ds)) _ (and_right (leb (length ds) m) (list_all digit ds) e))
 
 by_test : (b : Bool) (x w : ℕ) → cond b (Some x) None ≡ Some w → (b ≡ true) × (w ≡ x)
 by_test true x w e = (refl, sym (some_one x w e))
@@ -92,10 +92,10 @@ point_found s =
 no_point_digit : (b : ℕ) → digit b ≡ true → eqb b 46 ≡ false
 no_point_digit b e = let r = digit_range b e in ne_eqb b 46 (λ z. omega (arith, r.0))
 
-point_after : (w r : List ℕ) → all digit w ≡ true → first_point r ≡ 0 → first_point (w ++ r) ≡ length w
+point_after : (w r : List ℕ) → list_all digit w ≡ true → first_point r ≡ 0 → first_point (w ++ r) ≡ length w
 point_after [] r e h = h
 point_after (b ∷ w) r e h =
-    let p = and_parts (digit b) (all digit w) e in
+    let p = and_parts (digit b) (list_all digit w) e in
     point_past b (w ++ r) (no_point_digit b p.0) ∙ ap suc (point_after w r p.1 h)
 
 abbrev Begins : List ℕ → Type 0
@@ -217,7 +217,7 @@ first_digit : (w r : List ℕ) → figures most_whole w ≡ true → has_minus (
 first_digit [] r e = let g = figures_are most_whole [] e in absurd (omega (arith, g.0))
 first_digit (b ∷ w) r e =
     let g = figures_are most_whole (b ∷ w) e in
-    let d = digit_range b (and_parts (digit b) (all digit w) g.2).0 in
+    let d = digit_range b (and_parts (digit b) (list_all digit w) g.2).0 in
     minus_first (b ∷ (w ++ r)) (λ z. omega arith) ∙ ne_eqb b 45 (λ z. omega (arith, d.0))
 
 no_minus : {s : List ℕ} {n : ℕ} → Thousandths s n → has_minus s ≡ false
@@ -244,17 +244,11 @@ number_means s o e = means_of s o (sym e)
 abbrev shown : ℕ → Bool
 shown b = figure_kind (kind b)
 
-all_shown : (w : List ℕ) → all digit w ≡ true → all shown w ≡ true
+all_shown : (w : List ℕ) → list_all digit w ≡ true → list_all shown w ≡ true
 all_shown [] e = refl
 all_shown (b ∷ w) e =
-    let p = and_parts (digit b) (all digit w) e in
-    and_from (shown b) (all shown w) (ap figure_kind (digit_kind b p.0)) (all_shown w p.1)
-
-all-++ : (w r : List ℕ) → all shown w ≡ true → all shown r ≡ true → all shown (w ++ r) ≡ true
-all-++ [] r e h = h
-all-++ (b ∷ w) r e h =
-    let p = and_parts (shown b) (all shown w) e in
-    and_from (shown b) (all shown (w ++ r)) p.0 (all-++ w r p.1 h)
+    let p = and_parts (digit b) (list_all digit w) e in
+    and_from (shown b) (list_all shown w) (ap figure_kind (digit_kind b p.0)) (all_shown w p.1)
 
 point_shown : shown 46 ≡ true
 unfolding kind
@@ -268,21 +262,21 @@ not_empty : (w r : List ℕ) → 1 ≤ length w → 0 < length (w ++ r)
 not_empty [] r h = absurd (omega arith)
 not_empty (b ∷ w) r h = omega arith
 
-thousandths_kinds : {s : List ℕ} {n : ℕ} → Thousandths s n → (0 < length s) × (all shown s ≡ true)
+thousandths_kinds : {s : List ℕ} {n : ℕ} → Thousandths s n → (0 < length s) × (list_all shown s ≡ true)
 thousandths_kinds (plain w e) = let g = figures_are most_whole w e in (omega (arith, g.0), all_shown w g.2)
 thousandths_kinds (parted w f e h) =
     let g = figures_are most_whole w e in
     let k = figures_are most_fraction f h in (
       not_empty w (46 ∷ f) g.0,
-      all-++ w (46 ∷ f) (all_shown w g.2) (and_from (shown 46) (all shown f) point_shown (all_shown f k.2)),
+      list_all-append shown w (46 ∷ f) ∙ and_from _ _ (all_shown w g.2) (and_from (shown 46) (list_all shown f) point_shown (all_shown f k.2)),
     )
 
-of_kinds : {s : List ℕ} {v : ℤ} → Number s v → (0 < length s) × (all (λ b. figure_kind (kind b)) s ≡ true)
+of_kinds : {s : List ℕ} {v : ℤ} → Number s v → (0 < length s) × (list_all (λ b. figure_kind (kind b)) s ≡ true)
 of_kinds (positive s n t) = thousandths_kinds t
-of_kinds (negative s n t) = (omega arith, and_from (shown 45) (all shown s) minus_shown (thousandths_kinds t).1)
+of_kinds (negative s n t) = (omega arith, and_from (shown 45) (list_all shown s) minus_shown (thousandths_kinds t).1)
 
 -- a number is not empty, and its bytes are digits, hyphens and points
-pub number_kinds : (s : List ℕ) (v : ℤ) → Number s v → (0 < length s) × (all (λ b. figure_kind (kind b)) s ≡ true)
+pub number_kinds : (s : List ℕ) (v : ℤ) → Number s v → (0 < length s) × (list_all (λ b. figure_kind (kind b)) s ≡ true)
 number_kinds s v = of_kinds
 
 -- bounds
@@ -290,10 +284,10 @@ number_kinds s v = of_kinds
 pub next_power : (n k d : ℕ) → n < 10 ^ k → d ≤ 9 → n * 10 + d < 10 ^ (k + 1)
 next_power n k d h l = let p : 10 ^ (k + 1) ≡ 10 ^ k * 10 = ap (λ j. 10 ^ j) (add-one k) ∙ pow-suc 10 k in omega arith
 
-decimal_small : (n k : ℕ) (ds : List ℕ) → all digit ds ≡ true → n < 10 ^ k → decimal n ds < 10 ^ (k + length ds)
+decimal_small : (n k : ℕ) (ds : List ℕ) → list_all digit ds ≡ true → n < 10 ^ k → decimal n ds < 10 ^ (k + length ds)
 decimal_small n k [] e h = let z : k ≡ k + 0 = omega arith in subst (λ j. n < 10 ^ j) z h
 decimal_small n k (b ∷ ds) e h =
-    let p = and_parts (digit b) (all digit ds) e in
+    let p = and_parts (digit b) (list_all digit ds) e in
     let r = digit_range b p.0 in
     let z : (k + 1) + length ds ≡ k + suc (length ds) = omega arith in
     subst (λ j. decimal (n * 10 + (b - 48)) ds < 10 ^ j) z

@@ -1,9 +1,9 @@
 -- A number is an optional minus (45), one to five digits, and optionally a point (46) with one to three digits. Its value is in hundredths.
 use Rattle.std.specs.Prelude.{◌≡◌, ℕ, suc, ◌+◌, ◌-◌, ◌*◌, ◌^◌, Bool, true, false, cond, ◌&&◌, List, [], ◌∷◌, ◌++◌, length, take, drop, ℤ, pos, negsuc, neg_ℤ, Some, None, codes, Option as Maybe, ◌==◌, nat_le}
+use Rattle.std.specs.List.{list_all}
 use Rattle.lexical.specs.declared.kinds.Kind.{Kind}
 use Rattle.lexical.specs.declared.kinds.Kind.TheVariants.{Letter, Digit, Hyphen, Point, Less, Greater, Slash, Blank, Other}
 use Rattle.lexical.specs.Kinds.{digit}
-use Rattle.lexical.specs.Words.{all}
 use Rattle.lexical.specs.Rounding.{hundredths}
 
 -- the most digits before the point, and after it
@@ -15,7 +15,7 @@ most_fraction = 3
 
 -- whether the bytes are one to m digits
 unfoldable pub figures : ℕ → List ℕ → Bool
-figures m ds = nat_le 1 (length ds) && (nat_le (length ds) m && all digit ds)
+figures m ds = nat_le 1 (length ds) && (nat_le (length ds) m && list_all digit ds)
 
 -- the number that the digits write after those of n, from left to right
 abbrev pub decimal : ℕ → List ℕ → ℕ

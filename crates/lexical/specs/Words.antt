@@ -31,14 +31,10 @@ continues_word Slash = false
 continues_word Blank = false
 continues_word Other = false
 
--- a test that all bytes pass
-abbrev pub all : (ℕ → Bool) → List ℕ → Bool
-all = list_all
-
 -- a letter, and then letters, digits and hyphens
 unfoldable pub spelled : List ℕ → Bool
 spelled [] = false
-spelled (b ∷ bs) = begins_word (kind b) && all (λ c. continues_word (kind c)) bs
+spelled (b ∷ bs) = begins_word (kind b) && list_all (λ c. continues_word (kind c)) bs
 
 abbrev pub word : List ℕ → Bool
 word bs = nat_le (length bs) longest_word && spelled bs

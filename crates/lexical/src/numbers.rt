@@ -3,7 +3,6 @@ ghost use Rattle.std.specs.Prelude.{◌≡◌, ◌==◌, ◌^◌, ◌<◌, ◌�
 ghost use Rattle.std.specs.List.{position};
 ghost use Rattle.lexical.specs.Numbers.{Means, most_fraction, valued, scaled, first_point, fraction, thousandths, has_minus, signed, exact, number};
 
-use crate::kinds::{Kind, kind_of};
 use crate::rounding::hundredths;
 
 // The most digits before the point, and after it.
@@ -22,9 +21,9 @@ fn figures(digits: &[u8], most: usize) -> Option<u32>
     }
     let mut n = 0;
     for b in digits {
-        let Kind::Digit = kind_of(*b) else {
+        if !b.is_ascii_digit() {
             return None;
-        };
+        }
         n = n * 10 + u32::from(*b - b'0');
     }
     Some(n)

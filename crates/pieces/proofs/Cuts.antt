@@ -1,10 +1,10 @@
 -- The pieces that are computed are those that the text is cut into, and in one way only.
 use Rattle.std.proofs.Common.{◌≡◌, ℕ, Bool, true, false, cond, List, [], ◌∷◌, ◌++◌, Some, sym, refl, ap, ◌∙◌, subst, ap₂, inl, inr}
+use Rattle.std.specs.List.{list_all}
 use Rattle.std.proofs.lemmas.Bool.{and_parts, and_from, cases_Bool}
 use Rattle.lexical.specs.declared.kinds.Kind.{Kind}
 use Rattle.lexical.specs.declared.kinds.Kind.TheVariants.{Letter, Digit, Hyphen, Point, Less, Greater, Slash, Blank, Other}
 use Rattle.lexical.specs.Kinds.{kind}
-use Rattle.lexical.specs.Words.{all}
 use Rattle.lexical.specs.Numbers.{figure_kind}
 use Rattle.pieces.specs.declared.run.Run.{Run}
 use Rattle.pieces.specs.declared.run.Run.TheVariants.{Word, Number}
@@ -55,22 +55,22 @@ after_off r b s e = ap (λ x. cond x (pieces_after (Some r) s) (pieces (b ∷ s)
 
 -- From the relation to the function.
 
-front_run : (r : Run) (w s : List ℕ) → all (carried r) w ≡ true → Past (carries r) s → front r (w ++ s) ≡ w
+front_run : (r : Run) (w s : List ℕ) → list_all (carried r) w ≡ true → Past (carries r) s → front r (w ++ s) ≡ w
 front_run r [] [] e p = front_nil r
 front_run r [] (b ∷ s) e p = front_off r b s p
 front_run r (b ∷ w) s e p =
-    let h = and_parts (carried r b) (all (carried r) w) e in
+    let h = and_parts (carried r b) (list_all (carried r) w) e in
     front_on r b (w ++ s) h.0 ∙ ap {B = List ℕ} (λ l. b ∷ l) (front_run r w s h.1 p)
 
-after_run : (r : Run) (w s : List ℕ) → all (carried r) w ≡ true → Past (carries r) s → pieces_after (Some r) (w ++ s) ≡ pieces s
+after_run : (r : Run) (w s : List ℕ) → list_all (carried r) w ≡ true → Past (carries r) s → pieces_after (Some r) (w ++ s) ≡ pieces s
 after_run r [] [] e p = after_nil r ∙ sym pieces_nil
 after_run r [] (b ∷ s) e p = after_off r b s p
 after_run r (b ∷ w) s e p =
-    let h = and_parts (carried r b) (all (carried r) w) e in
+    let h = and_parts (carried r b) (list_all (carried r) w) e in
     after_on r b (w ++ s) h.0 ∙ after_run r w s h.1 p
 
 -- a run, and the pieces of what follows it
-run_first : (r : Run) (b : ℕ) (w s : List ℕ) → all (carried r) w ≡ true → Past (carries r) s → running b (w ++ s) r ≡ run_piece r (b ∷ w) ∷ pieces s
+run_first : (r : Run) (b : ℕ) (w s : List ℕ) → list_all (carried r) w ≡ true → Past (carries r) s → running b (w ++ s) r ≡ run_piece r (b ∷ w) ∷ pieces s
 run_first r b w s e p = ap₂ {C = List Piece} (λ v l. run_piece r (b ∷ v) ∷ l) (front_run r w s e p) (after_run r w s e p)
 
 -- the kinds that begin a number, and those that stand alone
@@ -115,7 +115,7 @@ spelled_pieces (a_sign b s ps k x) =
 record Ends (r : Run) (s : List ℕ) : Type 0 where
   rest : List ℕ
   whole : s ≡ front r s ++ rest
-  every : all (carried r) (front r s) ≡ true
+  every : list_all (carried r) (front r s) ≡ true
   past : Past (carries r) rest
   spelled : Spelled rest (pieces_after (Some r) s)
 
@@ -124,7 +124,7 @@ ends_here r s e f p x =
     record {
       rest = s;
       whole = ap (λ l. l ++ s) (sym e);
-      every = ap (all (carried r)) e;
+      every = ap (list_all (carried r)) e;
       past = p;
       spelled = subst (Spelled s) (sym f) x;
     }
@@ -135,7 +135,7 @@ goes_on r b s e n =
     record {
       rest = n.rest;
       whole = ap {B = List ℕ} (λ l. b ∷ l) n.whole ∙ ap (λ l. l ++ n.rest) (sym f);
-      every = ap (all (carried r)) f ∙ and_from (carried r b) (all (carried r) (front r s)) e n.every;
+      every = ap (list_all (carried r)) f ∙ and_from (carried r b) (list_all (carried r) (front r s)) e n.every;
       past = n.past;
       spelled = subst (Spelled n.rest) (sym (after_on r b s e)) n.spelled;
     }

@@ -1,5 +1,6 @@
 -- What the grammar derives, the reader of items passes.
 use Rattle.std.proofs.Common.{◌≡◌, ℕ, zero, suc, ◌+◌, ◌<◌, Bool, true, false, cond, eqb, leb, List, [], ◌∷◌, ◌++◌, length, get_or, sym, refl, ap, ◌∙◌, subst, append_assoc, arith, length-append}
+use Rattle.std.specs.List.{list_all}
 use mathlib.Core.Bool.{false≢true}
 use mathlib.Core.Option.{Option, some, none}
 use Rattle.std.proofs.lemmas.Bool.{ne_eqb, eq-eqb, and_parts}
@@ -8,7 +9,7 @@ use Rattle.record_text.specs.declared.entry.Entry.{Entry}
 use Rattle.lexical.specs.declared.kinds.Kind.{Kind}
 use Rattle.lexical.specs.declared.kinds.Kind.TheVariants.{Letter, Digit, Hyphen, Point, Less, Greater, Slash, Blank, Other}
 use Rattle.lexical.specs.Kinds.{kind}
-use Rattle.lexical.specs.Words.{longest_word, word, spelled, begins_word, continues_word, all}
+use Rattle.lexical.specs.Words.{longest_word, word, spelled, begins_word, continues_word}
 use Rattle.lexical.proofs.NumberFacts.{number_rule}
 use Rattle.record_text.specs.Grammar.{Item, gap, num, bytes, text, size, opening, closing, alone, Blanks, no_blank, one_more, Content, nothing, blank, element, Element, hollow, around, holding}
 use Rattle.record_text.specs.Machine.{named, move_num, Open, Held, blanks, elements, value, Shape, shape, opened, Tag, opens, closes, whole, tag_of, same, free, move_tag, move, after, runs}
@@ -41,10 +42,10 @@ runs-++ p s (i ∷ is) js s' e =
     after-++ (move p s i) _ _ s' _ (λ t f. runs-++ (p + length (bytes i)) t is js s' f ∙ ap (λ n. runs n s' js) q) e
 
 -- tags
-pub all_get_d : (P : ℕ → Bool) (xs : List ℕ) (k : ℕ) → all P xs ≡ true → k < length xs → P (get_or xs k 0) ≡ true
+pub all_get_d : (P : ℕ → Bool) (xs : List ℕ) (k : ℕ) → list_all P xs ≡ true → k < length xs → P (get_or xs k 0) ≡ true
 all_get_d P [] k e h = absurd (omega arith)
-all_get_d P (x ∷ xs) zero e h = (and_parts (P x) (all P xs) e).0
-all_get_d P (x ∷ xs) (suc k) e h = all_get_d P xs k (and_parts (P x) (all P xs) e).1 (omega arith)
+all_get_d P (x ∷ xs) zero e h = (and_parts (P x) (list_all P xs) e).0
+all_get_d P (x ∷ xs) (suc k) e h = all_get_d P xs k (and_parts (P x) (list_all P xs) e).1 (omega arith)
 
 unfoldable pub name_byte : ℕ → Bool
 name_byte c = continues_word (kind c)
@@ -60,11 +61,11 @@ first_continues Slash e = absurd (false≢true e)
 first_continues Blank e = absurd (false≢true e)
 first_continues Other e = absurd (false≢true e)
 
-spelled_all : (w : List ℕ) → spelled w ≡ true → all name_byte w ≡ true
+spelled_all : (w : List ℕ) → spelled w ≡ true → list_all name_byte w ≡ true
 unfolding spelled name_byte
 spelled_all [] e = absurd (false≢true e)
 spelled_all (b ∷ bs) e =
-    let p = and_parts (begins_word (kind b)) (all (λ c. continues_word (kind c)) bs) e in
+    let p = and_parts (begins_word (kind b)) (list_all (λ c. continues_word (kind c)) bs) e in
     let f = first_continues (kind b) p.0 in
     let g = p.1 in
     rw (f, g) refl
@@ -72,7 +73,7 @@ spelled_all (b ∷ bs) e =
 word_spelled : (w : List ℕ) → word w ≡ true → spelled w ≡ true
 word_spelled w e = (and_parts (leb (length w) longest_word) (spelled w) e).1
 
-pub word_all : (w : List ℕ) → word w ≡ true → all name_byte w ≡ true
+pub word_all : (w : List ℕ) → word w ≡ true → list_all name_byte w ≡ true
 word_all w e = spelled_all w (word_spelled w e)
 
 pub no_word : word [] ≡ true → ⊥

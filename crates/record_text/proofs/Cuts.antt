@@ -1,12 +1,13 @@
 -- What the grammar derives is cut into its own items.
 use Rattle.std.proofs.Common.{◌≡◌, ℕ, ◌<◌, true, List, [], ◌∷◌, ◌++◌, length, ℤ, sym, refl, ap, ◌∙◌, subst, append_assoc, arith}
+use Rattle.std.specs.List.{list_all}
 use mathlib.Core.Bool.{false≢true}
 use Rattle.std.proofs.lemmas.Bool.{and_parts}
 use Rattle.record_text.specs.declared.entry.Entry.{Entry}
 use Rattle.lexical.specs.declared.kinds.Kind.{Kind}
 use Rattle.lexical.specs.declared.kinds.Kind.TheVariants.{Letter, Digit, Hyphen, Point, Less, Greater, Slash, Blank, Other}
 use Rattle.lexical.specs.Kinds.{kind}
-use Rattle.lexical.specs.Words.{word, continues_word, all}
+use Rattle.lexical.specs.Words.{word, continues_word}
 use Rattle.lexical.specs.Numbers.{Number, figure_kind}
 use Rattle.lexical.proofs.NumberFacts.{number_kinds}
 use Rattle.record_text.specs.Grammar.{Item, gap, num, text, closing, Blanks, no_blank, one_more, Content, nothing, blank, element, Element, hollow, around, holding}
@@ -29,10 +30,10 @@ name_role Slash g e = false≢true g
 name_role Blank g e = false≢true g
 name_role Other g e = false≢true g
 
-name_no_greater : (w : List ℕ) → all name_byte w ≡ true → NoGreater w
+name_no_greater : (w : List ℕ) → list_all name_byte w ≡ true → NoGreater w
 unfolding name_byte role
 name_no_greater [] e = tt
-name_no_greater (b ∷ w) e = let p = and_parts (name_byte b) (all name_byte w) e in (name_role (kind b) p.0, name_no_greater w p.1)
+name_no_greater (b ∷ w) e = let p = and_parts (name_byte b) (list_all name_byte w) e in (name_role (kind b) p.0, name_no_greater w p.1)
 
 word_no_greater : (w : List ℕ) → word w ≡ true → NoGreater w
 word_no_greater w e = name_no_greater w (word_all w e)
@@ -68,10 +69,10 @@ role_figure Slash e = absurd (differ plain figure tt e)
 role_figure Blank e = absurd (differ space figure tt e)
 role_figure Other e = absurd (differ plain figure tt e)
 
-all_figures : (ds : List ℕ) → all (λ b. figure_kind (kind b)) ds ≡ true → Figures ds
+all_figures : (ds : List ℕ) → list_all (λ b. figure_kind (kind b)) ds ≡ true → Figures ds
 unfolding role
 all_figures [] e = tt
-all_figures (b ∷ ds) e = let p = and_parts (figure_kind (kind b)) (all (λ c. figure_kind (kind c)) ds) e in (figure_role (kind b) p.0, all_figures ds p.1)
+all_figures (b ∷ ds) e = let p = and_parts (figure_kind (kind b)) (list_all (λ c. figure_kind (kind c)) ds) e in (figure_role (kind b) p.0, all_figures ds p.1)
 
 not_empty : (ds : List ℕ) → 0 < length ds → NotEmpty ds
 not_empty [] h = absurd (omega arith)

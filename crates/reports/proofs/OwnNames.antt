@@ -1,11 +1,10 @@
 -- The names that are looked up by their places are the nodes' own.
 use Rattle.std.proofs.Common.{◌≡◌, ℕ, zero, suc, ◌+◌, ◌<◌, ◌≤◌, Bool, true, false, cond, ◌&&◌, ltb, List, [], ◌∷◌, ◌++◌, map, length, get_or, take, drop, Some, None, codes, Option as Maybe, sym, refl, ap, ◌∙◌, arith}
-use Rattle.std.specs.List.{range_with_len}
+use Rattle.std.specs.List.{range_with_len, list_all}
 use Rattle.std.specs.Str.{bytes_eq}
 use Rattle.std.proofs.lemmas.List.FromFn.{get_or-map-range_with_len}
 use Rattle.std.proofs.lemmas.Slice.Eq.{bytes_eq-Decides}
 use Rattle.std.proofs.lemmas.Bool.{and_parts, lt-ltb}
-use Rattle.lexical.specs.Words.{all}
 use Rattle.records.specs.Nodes.{Node, no_node, depth_at, value_at, named_at}
 use Rattle.records.specs.Sums.{total_of}
 use Rattle.layers.specs.Layers.{hidden_by, unless_hidden, shown, without, run, lowered, cut_part, cut_nodes}
@@ -116,11 +115,11 @@ block_named b =
     named_counting (λ p. (get_or (block_nodes b) p no_node).name) g 0 (node_count b) (λ k l h. ap (λ (n : Node). n.name) (get_or-map-range_with_len g 0 (node_count b) k k no_node (omega arith) (omega arith)))
 
 -- a text's names end before the first byte that belongs to no word
-front_word : (w : List ℕ) (x : ℕ) (C : List ℕ) → all name_byte w ≡ true → name_byte x ≡ false → word_front (w ++ x ∷ C) ≡ w
+front_word : (w : List ℕ) (x : ℕ) (C : List ℕ) → list_all name_byte w ≡ true → name_byte x ≡ false → word_front (w ++ x ∷ C) ≡ w
 unfolding name_byte
 front_word [] x C a b = ap (λ k. cond k (x ∷ word_front C) []) b
 front_word (c ∷ w) x C a b =
-    let q = and_parts (name_byte c) (all name_byte w) a in
+    let q = and_parts (name_byte c) (list_all name_byte w) a in
     ap (λ k. cond k (c ∷ word_front (w ++ x ∷ C)) []) q.0 ∙ ap (λ l. c ∷ l) (front_word w x C q.1 b)
 
 told_named : (t : List ℕ) (es : List Entry) → Tells t es → Named (text_name t) (text_nodes t es) (text_places es)

@@ -1,7 +1,7 @@
 use Rattle.std.proofs.Common.{◌≡◌, ℕ, ◌+◌, ◌-◌, ◌<◌, true, length, get_or, set, sym, subst, ap, ◌∙◌, add-one, arith, length-set}
-use Rattle.std.specs.List.{range_with_len}
+use Rattle.std.specs.List.{range_with_len, list_all}
 use Rattle.std.proofs.lemmas.List.Edits.{fill_by_more}
-use Rattle.lexical.specs.Words.{all, word}
+use Rattle.lexical.specs.Words.{word}
 use Rattle.blocks.specs.Places.{all_words, name_at, name_of, name_start}
 use Rattle.blocks.proofs.Alls.{all_next}
 use Rattle.blocks.proofs.plan.read_names.Goals as goal
@@ -18,7 +18,7 @@ loop-start-preserved c =
     let step : name_start bs (k + 1) ≡ name_start bs k + 1 + get_or bs (name_start bs k) 0 = ap (name_start bs) (add-one k) in
     let len : c.from-in-loop-start.result ≡ get_or bs (name_start bs k) 0 = c.from-in-loop-start.ensures ∙ c.byte.ensures ∙ ap (λ (i : ℕ). get_or bs i 0) (c.from.ensures ∙ here) in
     record {
-      words = subst (λ (n : ℕ). all_words bs n ≡ all (λ j. word (name_of bs j)) (range_with_len (k + 1) (n - (k + 1)))) (sym size) (c.loop-start.invariant.words ∙ all_next (λ j. word (name_of bs j)) k (length starts) room is-a-word);
+      words = subst (λ (n : ℕ). all_words bs n ≡ list_all (λ j. word (name_of bs j)) (range_with_len (k + 1) (n - (k + 1)))) (sym size) (c.loop-start.invariant.words ∙ all_next (λ j. word (name_of bs j)) k (length starts) room is-a-word);
       here = omega arith;
       near = omega (arith, c.loop-start.invariant.near, c.byte.type_inv);
       table = λ j l. ap (λ (i : ℕ). get_or (set starts k i) j 0) here ∙ fill_by_more (name_start bs) starts k 0 room c.loop-start.invariant.table j l;

@@ -1,6 +1,6 @@
 use Rattle.std.proofs.Common.{◌≡◌, ◌^◌, ◌<◌, drop}
+use Rattle.std.specs.List.{list_all}
 use Rattle.lexical.specs.Kinds.{digit}
-use Rattle.lexical.specs.Words.{all}
 use Rattle.lexical.specs.Numbers.{decimal}
 use Rattle.lexical.proofs.numbers.figures.Given as goal
 
@@ -9,4 +9,4 @@ abbrev pub invariant-loop-b : goal.invariant-loop-b
 invariant-loop-b l =
     (l.n < 10 ^ l.b-index)
     × (decimal l.n (drop l.b-index l.digits) ≡ decimal 0 l.digits)
-    × (all digit (drop l.b-index l.digits) ≡ all digit l.digits)
+    × (list_all digit (drop l.b-index l.digits) ≡ list_all digit l.digits)

@@ -1,14 +1,15 @@
 use Rattle.std.proofs.Common.{◌≡◌, ℕ, ◌-◌, ◌≤◌, Bool, true, false, ◌&&◌, List, [], ◌∷◌, length, get_or, take, drop, sym, ap, ◌∙◌, arith, rules}
+use Rattle.std.specs.List.{list_all}
 use Rattle.std.proofs.lemmas.List.{nil_from_length, take_rest}
 use Rattle.lexical.specs.Kinds.{kind}
-use Rattle.lexical.specs.Words.{begins_word, continues_word, all, spelled}
+use Rattle.lexical.specs.Words.{begins_word, continues_word, spelled}
 use Rattle.lexical.proofs.words.is_spelled.Goals as goal
 
 -- the first byte and the rest, as the code has them
-spelled_parts : (s : List ℕ) (a : Bool) → 1 ≤ length s → begins_word (kind (get_or s 0 0)) ≡ a → spelled s ≡ (a && all (λ b. continues_word (kind b)) (take (length s - 1) (drop 1 s)))
+spelled_parts : (s : List ℕ) (a : Bool) → 1 ≤ length s → begins_word (kind (get_or s 0 0)) ≡ a → spelled s ≡ (a && list_all (λ b. continues_word (kind b)) (take (length s - 1) (drop 1 s)))
 unfolding spelled
 spelled_parts [] a h e = absurd (omega arith)
-spelled_parts (b ∷ bs) a h e = ap (λ x. x && all (λ c. continues_word (kind c)) bs) e ∙ ap (λ r. a && all (λ c. continues_word (kind c)) r) (sym (take_rest (b ∷ bs) 1))
+spelled_parts (b ∷ bs) a h e = ap (λ x. x && list_all (λ c. continues_word (kind c)) bs) e ∙ ap (λ r. a && list_all (λ c. continues_word (kind c)) r) (sym (take_rest (b ∷ bs) 1))
 
 pub returns-then-begins_word : goal.returns-then-begins_word
 returns-then-begins_word c =
