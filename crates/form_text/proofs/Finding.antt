@@ -1,6 +1,6 @@
 -- What is read from the pieces of a text that is not too long is what the text says.
-use Rattle.std.proofs.Common.{◌≡◌, ℕ, ◌≤◌, cond, leb, List, length, Some, None, Err, Option as Maybe, sym, ap, ◌∙◌, le-leb}
-use Rattle.std.specs.Option.{ok_or}
+use Rattle.std.proofs.Common.{◌≡◌, ℕ, ◌≤◌, cond, leb, List, length, Some, None, Ok, Err, Option as Maybe, Result, sym, ap, ◌∙◌, le-leb}
+use Rattle.std.specs.Result.{IsErrAnd}
 use Rattle.lexical.specs.declared.spelled.Word.{Word}
 use Rattle.contents.specs.declared.expression.Expression.{Expression}
 use Rattle.pieces.specs.Pieces.{Piece}
@@ -12,9 +12,10 @@ use Rattle.form_grammar.proofs.TextFacts.{rule_text, start_text, no_rule_text, n
 use Rattle.form_text.specs.declared.rule.Rule.{Rule as CodeRule}
 use Rattle.form_text.specs.declared.errors.RuleError.{RuleError}
 use Rattle.form_text.specs.declared.errors.RuleError.TheVariants as rule
-use Rattle.form_text.specs.declared.errors.StartError.TheVariants as start
+use Rattle.form_text.specs.declared.errors.StartError.{StartError}
+use Rattle.form_text.specs.declared.errors.StartError.TheVariants.{NotOfForm, NoMemory}
 use Rattle.form_text.specs.Answers.{ReadsRule, ReadsStart}
-use Rattle.form_text.specs.Reads.{said, written, rule_read, start_read}
+use Rattle.form_text.specs.Reads.{IfRead, as_rule_error, said, written, rule_read, start_read}
 
 module _ (t : List ℕ) (ps : List Piece) (short : length t ≤ longest) (cut : ps ≡ pieces t) where
   short_text : {X : Type 0} (o : Maybe X) → cond (leb (length t) longest) o None ≡ o
@@ -31,12 +32,16 @@ module _ (t : List ℕ) (ps : List Piece) (short : length t ≤ longest) (cut : 
   pub said_rule : (r : CodeRule) → Some (said r) ≡ rule_of_pieces ps → RuleText t (said r)
   said_rule r e = rule_text t (said r) (rule_there (Some r) e)
 
-  pub no_rule : (o : Maybe CodeRule) → rule_read o ≡ rule_of_pieces ps → (e : RuleError) → Err e ≡ ok_or o rule.NotOfForm → ReadsRule t (Err e)
-  no_rule None h rule.NotOfForm q = no_rule_text t (rule_there None h)
-  no_rule None h rule.LowAboveHigh q = cc
-  no_rule None h rule.NoMemory q = cc
-  no_rule (Some r) h e q = cc
+  pub rule_unread : (r : Result CodeRule RuleError) (e : StartError) → IsErrAnd r (λ f. f ≡ as_rule_error e)
+      → IfRead (Err e) (λ (o : Maybe CodeRule). rule_read o ≡ rule_of_pieces ps) → ReadsRule t r
+  rule_unread (Ok x) e h q = absurd h
+  rule_unread (Err rule.NotOfForm) NotOfForm h q = no_rule_text t (rule_there None q)
+  rule_unread (Err rule.LowAboveHigh) NotOfForm h q = cc
+  rule_unread (Err rule.NotOfForm) NoMemory h q = cc
+  rule_unread (Err rule.LowAboveHigh) NoMemory h q = cc
+  rule_unread (Err rule.NoMemory) e h q = tt
 
-  pub start_answer : (o : Maybe (Expression Word)) → start_read o ≡ content_of ps → ReadsStart t (ok_or o start.NotOfForm)
-  start_answer None h = no_start_text t (start_there None h)
-  start_answer (Some w) h = start_text t (written w) (start_there (Some w) h)
+  pub start_answer : (r : Result (Expression Word) StartError) → IfRead r (λ o. start_read o ≡ content_of ps) → ReadsStart t r
+  start_answer (Ok w) q = start_text t (written w) (start_there (Some w) q)
+  start_answer (Err NotOfForm) q = no_start_text t (start_there None q)
+  start_answer (Err NoMemory) q = tt

@@ -1,5 +1,5 @@
 -- How the readers' answers stand to the grammar: tokens by the pieces that they are, expressions by the contents that they say.
-use Rattle.std.specs.Prelude.{◌≡◌, ℕ, ◌+◌, ◌*◌, ◌<◌, ◌≤◌, List, length, Some, None, Option as Maybe, IfSome}
+use Rattle.std.specs.Prelude.{◌≡◌, ℕ, ◌+◌, ◌*◌, ◌<◌, ◌≤◌, List, length, Some, None, Ok, Err, Option as Maybe, Result, IfSome}
 use Rattle.std.specs.Borrow.{Bor}
 use Rattle.lexical.specs.declared.spelled.Word.{Word}
 use Rattle.lexical.specs.Spellings.{spelling}
@@ -11,6 +11,10 @@ use Rattle.pieces.specs.Pieces.{Piece}
 use Rattle.pieces.specs.Tokens.{pieces_of}
 use Rattle.form_grammar.specs.Grammar.{Written, Part, a_choice, a_sequence, an_item, an_atom, Body, branch, leaf, Rule}
 use Rattle.form_grammar.specs.Parser.{parse}
+use Rattle.form_text.specs.declared.errors.RuleError.{RuleError}
+use Rattle.form_text.specs.declared.errors.RuleError.TheVariants as rule
+use Rattle.form_text.specs.declared.errors.StartError.{StartError}
+use Rattle.form_text.specs.declared.errors.StartError.TheVariants.{NotOfForm, NoMemory}
 use Rattle.form_text.specs.declared.rule.Body.{Body as CodeBody}
 use Rattle.form_text.specs.declared.rule.Body.TheVariants.{Branch, Leaf}
 use Rattle.form_text.specs.declared.rule.Rule.{Rule as CodeRule}
@@ -28,6 +32,12 @@ left (Some r) = Some (pieces_of r.now)
 abbrev pub read_as : {X Y : Type 0} → (X → Y) → Maybe (X × Bor (List Token)) → Maybe (Y × List Piece)
 read_as f None = None
 read_as f (Some r) = Some (f r.0, pieces_of r.1.now)
+
+-- an answer that a reader gave: what it read, or nothing where the tokens are not of the form; where memory is wanting nothing is said
+abbrev pub IfRead : {X : Type 0} → Result X StartError → (Maybe X → Type 0) → Type 0
+IfRead (Ok x) P = P (Some x)
+IfRead (Err NotOfForm) P = P None
+IfRead (Err NoMemory) P = Unit {0}
 
 -- How many calls inside one another a part needs, besides four for each piece.
 abbrev pub rank : Part → ℕ
@@ -61,3 +71,8 @@ rule_read (Some r) = Some (said r)
 abbrev pub start_read : Maybe (Expression Word) → Maybe Written
 start_read None = None
 start_read (Some e) = Some (written e)
+
+-- what reading a rule answers where one of its parts is not read
+abbrev pub as_rule_error : StartError → RuleError
+as_rule_error NotOfForm = rule.NotOfForm
+as_rule_error NoMemory = rule.NoMemory

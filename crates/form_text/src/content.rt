@@ -1,15 +1,16 @@
 // Reads contents by recursive descent. Each function reads one kind of part from the tokens, and answers its expression with the tokens
-// behind it, or nothing where no such part stands first.
-ghost use Rattle.std.specs.Prelude.{◌≡◌, ◌<◌, length, IfOk, IfSome};
+// behind it, or that they are not of the form where no such part stands first.
+ghost use Rattle.std.specs.Prelude.{◌≡◌, ◌<◌, length, IfSome};
 ghost use Rattle.pieces.specs.Tokens.{byte, pieces_of};
 ghost use Rattle.form_grammar.specs.Grammar.{a_choice, a_sequence, an_atom, an_item};
 ghost use Rattle.form_grammar.specs.Parser.{begins, content, past};
-ghost use Rattle.form_text.specs.Reads.{Parses, left, read_as, written};
+ghost use Rattle.form_text.specs.Reads.{IfRead, Parses, left, read_as, written};
 
+use crate::errors::StartError;
 use contents::Expression;
 use lexical::Word;
 use pieces::{Sign, Token};
-use std::alloc::{AllocError, Global};
+use std::alloc::Global;
 
 // The most brackets inside one another.
 const DEEPEST: usize = 16;
@@ -31,19 +32,15 @@ fn choice(
     heap: Global,
     tokens: &[Token],
     depth: usize,
-) -> Result<Option<(Expression<Word>, &[Token])>, AllocError>
-    ensures { IfOk result (λ o. Parses a_choice depth tokens.now o) }
+) -> Result<(Expression<Word>, &[Token]), StartError>
+    ensures { IfRead result (λ o. Parses a_choice depth tokens.now o) }
 {
-    let Some((first, behind)) = sequence(heap, tokens, depth)? else {
-        return Ok(None);
-    };
+    let (first, behind) = sequence(heap, tokens, depth)?;
     let Some(more) = past(behind, Sign::Bar) else {
-        return Ok(Some((first, behind)));
+        return Ok((first, behind));
     };
-    let Some((other, end)) = choice(heap, more, depth)? else {
-        return Ok(None);
-    };
-    Ok(Some((first.or(heap, other)?, end)))
+    let (other, end) = choice(heap, more, depth)?;
+    Ok((first.or(heap, other)?, end))
 }
 
 // One item or more, joined by `,`. (`choice` with another part, sign and join: one function for both would take these three as closures,
@@ -53,19 +50,15 @@ fn sequence(
     heap: Global,
     tokens: &[Token],
     depth: usize,
-) -> Result<Option<(Expression<Word>, &[Token])>, AllocError>
-    ensures { IfOk result (λ o. Parses a_sequence depth tokens.now o) }
+) -> Result<(Expression<Word>, &[Token]), StartError>
+    ensures { IfRead result (λ o. Parses a_sequence depth tokens.now o) }
 {
-    let Some((first, behind)) = item(heap, tokens, depth)? else {
-        return Ok(None);
-    };
+    let (first, behind) = item(heap, tokens, depth)?;
     let Some(more) = past(behind, Sign::Comma) else {
-        return Ok(Some((first, behind)));
+        return Ok((first, behind));
     };
-    let Some((next, end)) = sequence(heap, more, depth)? else {
-        return Ok(None);
-    };
-    Ok(Some((first.then(heap, next)?, end)))
+    let (next, end) = sequence(heap, more, depth)?;
+    Ok((first.then(heap, next)?, end))
 }
 
 // An atom, and at most one of `*`, `+`, `?` behind it.
@@ -74,22 +67,20 @@ fn item(
     heap: Global,
     tokens: &[Token],
     depth: usize,
-) -> Result<Option<(Expression<Word>, &[Token])>, AllocError>
-    ensures { IfOk result (λ o. Parses an_item depth tokens.now o) }
+) -> Result<(Expression<Word>, &[Token]), StartError>
+    ensures { IfRead result (λ o. Parses an_item depth tokens.now o) }
 {
-    let Some((atom, behind)) = atom(heap, tokens, depth)? else {
-        return Ok(None);
-    };
+    let (atom, behind) = atom(heap, tokens, depth)?;
     if let Some(end) = past(behind, Sign::Asterisk) {
-        return Ok(Some((atom.repeated(heap)?, end)));
+        return Ok((atom.repeated(heap)?, end));
     }
     if let Some(end) = past(behind, Sign::Cross) {
-        return Ok(Some((atom.repeated_once(heap)?, end)));
+        return Ok((atom.repeated_once(heap)?, end));
     }
     if let Some(end) = past(behind, Sign::Question) {
-        return Ok(Some((atom.omitted(heap)?, end)));
+        return Ok((atom.omitted(heap)?, end));
     }
-    Ok(Some((atom, behind)))
+    Ok((atom, behind))
 }
 
 // A variable, or a choice in brackets, which may stand inside one another as deep as `depth` says.
@@ -98,25 +89,23 @@ fn atom(
     heap: Global,
     tokens: &[Token],
     depth: usize,
-) -> Result<Option<(Expression<Word>, &[Token])>, AllocError>
-    ensures { IfOk result (λ o. Parses an_atom depth tokens.now o) }
+) -> Result<(Expression<Word>, &[Token]), StartError>
+    ensures { IfRead result (λ o. Parses an_atom depth tokens.now o) }
 {
     if let [Token::Word(variable), behind @ ..] = tokens {
-        return Ok(Some((Expression::Item(*variable), behind)));
+        return Ok((Expression::Item(*variable), behind));
     }
     let Some(inside) = past(tokens, Sign::OpenRound) else {
-        return Ok(None);
+        return Err(StartError::NotOfForm);
     };
     if depth == 0 {
-        return Ok(None);
+        return Err(StartError::NotOfForm);
     }
-    let Some((inner, behind)) = choice(heap, inside, depth - 1)? else {
-        return Ok(None);
-    };
+    let (inner, behind) = choice(heap, inside, depth - 1)?;
     let Some(end) = past(behind, Sign::CloseRound) else {
-        return Ok(None);
+        return Err(StartError::NotOfForm);
     };
-    Ok(Some((inner, end)))
+    Ok((inner, end))
 }
 
 // Whether an atom, and so a choice, stands first.
@@ -130,11 +119,11 @@ fn begins(tokens: &[Token]) -> bool
 pub(crate) fn content(
     heap: Global,
     tokens: &[Token],
-) -> Result<Option<(Expression<Word>, &[Token])>, AllocError>
-    ensures { IfOk result (λ o. read_as written o ≡ content (pieces_of tokens.now)) }
+) -> Result<(Expression<Word>, &[Token]), StartError>
+    ensures { IfRead result (λ o. read_as written o ≡ content (pieces_of tokens.now)) }
 {
     if !begins(tokens) {
-        return Ok(Some((Expression::Empty, tokens)));
+        return Ok((Expression::Empty, tokens));
     }
     choice(heap, tokens, DEEPEST)
 }

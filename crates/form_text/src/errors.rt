@@ -37,3 +37,17 @@ impl From<AllocError> for StartError {
         StartError::NoMemory
     }
 }
+
+// The readers of parts answer a `StartError`, of rules too.
+impl From<StartError> for RuleError {
+    ghost use Rattle.form_text.specs.Reads.{as_rule_error};
+
+    ghost from_gives = { λ e r. r ≡ as_rule_error e };
+
+    fn from(error: StartError) -> RuleError {
+        match error {
+            StartError::NotOfForm => RuleError::NotOfForm,
+            StartError::NoMemory => RuleError::NoMemory,
+        }
+    }
+}

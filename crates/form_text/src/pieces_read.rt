@@ -1,32 +1,31 @@
 // Reads rules and starts from the tokens of a whole text.
-ghost use Rattle.std.specs.Prelude.{◌≡◌, IfOk};
+ghost use Rattle.std.specs.Prelude.{◌≡◌};
 ghost use Rattle.form_grammar.specs.Parser.{body_of, branch_of, content_of, rule_of_pieces};
-ghost use Rattle.form_text.specs.Reads.{body_read, rule_read, start_read};
+ghost use Rattle.form_text.specs.Reads.{IfRead, body_read, rule_read, start_read};
 ghost use Rattle.pieces.specs.Tokens.{pieces_of};
 
 use crate::content::content;
+use crate::errors::StartError;
 use crate::rule::{Body, Rule};
 use contents::Expression;
 use lexical::Word;
 use pieces::{Sign, Token};
-use std::alloc::{AllocError, Global};
+use std::alloc::Global;
 
 // A content and the bracket that closes it, with nothing behind it.
-fn branch(heap: Global, tokens: &[Token]) -> Result<Option<Body>, AllocError>
-    ensures { IfOk result (λ o. body_read o ≡ branch_of (pieces_of tokens.now)) }
+fn branch(heap: Global, tokens: &[Token]) -> Result<Body, StartError>
+    ensures { IfRead result (λ o. body_read o ≡ branch_of (pieces_of tokens.now)) }
 {
-    let Some((content, behind)) = content(heap, tokens)? else {
-        return Ok(None);
-    };
+    let (content, behind) = content(heap, tokens)?;
     let [Token::Sign(Sign::CloseRound)] = behind else {
-        return Ok(None);
+        return Err(StartError::NotOfForm);
     };
-    Ok(Some(Body::Branch(content)))
+    Ok(Body::Branch(content))
 }
 
 // What stands behind a rule's name: a content in round brackets, or two numbers in square ones.
-fn body(heap: Global, tokens: &[Token]) -> Result<Option<Body>, AllocError>
-    ensures { IfOk result (λ o. body_read o ≡ body_of (pieces_of tokens.now)) }
+fn body(heap: Global, tokens: &[Token]) -> Result<Body, StartError>
+    ensures { IfRead result (λ o. body_read o ≡ body_of (pieces_of tokens.now)) }
 {
     match tokens {
         [Token::Sign(Sign::OpenRound), inside @ ..] => branch(heap, inside),
@@ -36,17 +35,17 @@ fn body(heap: Global, tokens: &[Token]) -> Result<Option<Body>, AllocError>
             Token::Sign(Sign::Comma),
             Token::Number(high),
             Token::Sign(Sign::CloseSquare),
-        ] => Ok(Some(Body::Leaf {
+        ] => Ok(Body::Leaf {
             low: *low,
             high: *high,
-        })),
-        _ => Ok(None),
+        }),
+        _ => Err(StartError::NotOfForm),
     }
 }
 
 // The rule that the tokens are.
-pub(crate) fn rule_of(heap: Global, tokens: &[Token]) -> Result<Option<Rule>, AllocError>
-    ensures { IfOk result (λ o. rule_read o ≡ rule_of_pieces (pieces_of tokens.now)) }
+pub(crate) fn rule_of(heap: Global, tokens: &[Token]) -> Result<Rule, StartError>
+    ensures { IfRead result (λ o. rule_read o ≡ rule_of_pieces (pieces_of tokens.now)) }
 {
     let [
         Token::Word(variable),
@@ -55,27 +54,22 @@ pub(crate) fn rule_of(heap: Global, tokens: &[Token]) -> Result<Option<Rule>, Al
         behind @ ..,
     ] = tokens
     else {
-        return Ok(None);
+        return Err(StartError::NotOfForm);
     };
-    let Some(body) = body(heap, behind)? else {
-        return Ok(None);
-    };
-    Ok(Some(Rule {
+    let body = body(heap, behind)?;
+    Ok(Rule {
         variable: *variable,
         name: *name,
         body,
-    }))
+    })
 }
 
 // The content that the tokens are.
-pub(crate) fn start_of(
-    heap: Global,
-    tokens: &[Token],
-) -> Result<Option<Expression<Word>>, AllocError>
-    ensures { IfOk result (λ o. start_read o ≡ content_of (pieces_of tokens.now)) }
+pub(crate) fn start_of(heap: Global, tokens: &[Token]) -> Result<Expression<Word>, StartError>
+    ensures { IfRead result (λ o. start_read o ≡ content_of (pieces_of tokens.now)) }
 {
-    let Some((content, [])) = content(heap, tokens)? else {
-        return Ok(None);
+    let (content, []) = content(heap, tokens)? else {
+        return Err(StartError::NotOfForm);
     };
-    Ok(Some(content))
+    Ok(content)
 }

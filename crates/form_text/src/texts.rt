@@ -1,8 +1,8 @@
 // Reads rule texts and start texts.
-ghost use Rattle.std.specs.Prelude.{◌≡◌, ◌<◌, ◌≤◌, length, IfOk, MatchOption};
+ghost use Rattle.std.specs.Prelude.{◌≡◌, ◌<◌, ◌≤◌, length, MatchOption};
 ghost use Rattle.form_grammar.specs.Grammar.{longest};
 ghost use Rattle.form_text.specs.Answers.{ReadsRule, ReadsStart, TellsOrder};
-ghost use Rattle.form_text.specs.Reads.{body_said};
+ghost use Rattle.form_text.specs.Reads.{IfRead, body_said};
 ghost use Rattle.pieces.specs.Cutting.{pieces};
 ghost use Rattle.pieces.specs.Tokens.{pieces_of};
 
@@ -12,19 +12,19 @@ use crate::rule::{Body, Rule};
 use contents::Expression;
 use lexical::Word;
 use pieces::{Token, cut};
-use std::alloc::{AllocError, Global};
+use std::alloc::Global;
 
 // The most bytes that a text has.
 pub const LONGEST_TEXT: usize = 512;
 
 // The tokens of a text, unless it is too long.
-fn tokens_of(heap: Global, text: &[u8]) -> Result<Option<Vec<Token>>, AllocError>
-    ensures { IfOk result (λ o. MatchOption o (longest < length text.now) (λ v. (length text.now ≤ longest) × (pieces_of v.items ≡ pieces text.now))) }
+fn tokens_of(heap: Global, text: &[u8]) -> Result<Vec<Token>, StartError>
+    ensures { IfRead result (λ o. MatchOption o (longest < length text.now) (λ v. (length text.now ≤ longest) × (pieces_of v.items ≡ pieces text.now))) }
 {
     if text.len() > LONGEST_TEXT {
-        return Ok(None);
+        return Err(StartError::NotOfForm);
     }
-    Ok(Some(cut(heap, text)?))
+    Ok(cut(heap, text)?)
 }
 
 impl Body {
@@ -44,8 +44,8 @@ impl Body {
 pub fn read_rule(heap: Global, text: &[u8]) -> Result<Rule, RuleError>
     ensures { ReadsRule text.now result }
 {
-    let tokens = tokens_of(heap, text)?.ok_or(RuleError::NotOfForm)?;
-    let rule = rule_of(heap, &tokens)?.ok_or(RuleError::NotOfForm)?;
+    let tokens = tokens_of(heap, text)?;
+    let rule = rule_of(heap, &tokens)?;
     if rule.body.low_above_high() {
         return Err(RuleError::LowAboveHigh);
     }
@@ -57,6 +57,6 @@ pub fn read_rule(heap: Global, text: &[u8]) -> Result<Rule, RuleError>
 pub fn read_start(heap: Global, text: &[u8]) -> Result<Expression<Word>, StartError>
     ensures { ReadsStart text.now result }
 {
-    let tokens = tokens_of(heap, text)?.ok_or(StartError::NotOfForm)?;
-    start_of(heap, &tokens)?.ok_or(StartError::NotOfForm)
+    let tokens = tokens_of(heap, text)?;
+    start_of(heap, &tokens)
 }
