@@ -14,7 +14,11 @@ fn show_nodes(rt: &HostRuntime, nodes: &[Entry]) -> anyhow::Result<()> {
         let end = node.end;
         let name_len = node.name_len;
         let depth = node.depth;
-        let kind = if node.value.is_some() { "leaf" } else { "branch" };
+        let kind = if node.value.is_some() {
+            "leaf"
+        } else {
+            "branch"
+        };
         let value = node.value.unwrap_or_default();
         println!(rt; "{start} {end} {name_len} {depth} {kind} {value}")?;
     }
