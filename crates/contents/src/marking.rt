@@ -17,6 +17,7 @@ pub enum Unmarked {
     NoMemory,
 }
 
+// (By hand, since the contract says which error it makes; a derived one has none.)
 impl From<AllocError> for Unmarked {
     ghost from_gives = { λ _ r. r ≡ NoMemory };
 

@@ -22,6 +22,7 @@ pub enum StartError {
     NoMemory,
 }
 
+// (By hand, these three, since their contracts say which error they make; derived ones have none.)
 impl From<AllocError> for RuleError {
     ghost from_gives = { λ _ r. r ≡ rule.NoMemory };
 

@@ -5,7 +5,8 @@ ghost use Rattle.lexical.specs.Spellings.{Spells, spelling};
 
 use crate::words::{LONGEST_WORD, is_word};
 
-// A word: its bytes, and zeros behind them.
+// A word: its bytes, and zeros behind them. (An array with a length beside it, and no `String`: a word is made without the heap, so
+// that making one cannot fail, and is copied.)
 #[derive(Clone, Copy)]
 pub struct Word {
     bytes: [u8; LONGEST_WORD],

@@ -9,6 +9,7 @@ pub fn total<R: Record>(source: &R) -> i64
     ensures { result ≡ total_of (R.nodes source.now) }
 {
     let mut sum = 0;
+    // By number, since that is how a record is asked; `sum` over a chain says nothing of a signed sum's bounds.
     for n in 0..source.count() {
         if let Some(value) = source.value(n) {
             sum += i64::from(value);

@@ -24,6 +24,7 @@ pub enum Refusal {
 }
 
 impl Refusal {
+    // The number by which users know it: part of what the programs print.
     pub fn number(&self) -> u8
         ensures { result ≡ number self.now }
     {

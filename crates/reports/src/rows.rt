@@ -50,6 +50,7 @@ fn push_lines<R: Record, N: Names>(
 ) -> Result<(), AllocError>
     ensures { OnOk result (report.new ≡ report.old ++ record_lines (found (N.stands names.now)) (R.nodes source.now) (R.places source.now) 0 (length (R.nodes source.now))) }
 {
+    // By number, since that is how a record is asked.
     for n in 0..source.count() {
         push_record_line(report, source, names, n)?;
     }
