@@ -42,8 +42,8 @@ impl Kind {
     }
 }
 
-// The kinds of the 256 bytes. A `match` on ranges of bytes says the same in ten lines, but with it `open` takes half as long again
-// (docs/TIMES.md). A `static` is read in place; a `const` would be built anew in each function that names it.
+// The kinds of the 256 bytes. A `match` on ranges of bytes says the same in ten lines, but with it `open` takes more than twice as
+// long (docs/TIMES.md). A `static` is read in place; a `const` would be built anew in each function that names it.
 static KINDS: [Kind; 256] = [
     Kind::Other,
     Kind::Other,

@@ -42,7 +42,7 @@ impl Command {
     pub fn asked(&self) -> Asked<'_> {
         Asked {
             cut: self.cut,
-            hide: self.hide.as_ref().map_or(&[], |name| name.as_bytes()),
+            hide: self.hide.as_ref().map(|name| name.as_bytes()),
             total: self.total,
         }
     }

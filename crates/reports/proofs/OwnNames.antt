@@ -16,7 +16,7 @@ use Rattle.record_text.proofs.Complete.{name_byte, word_all}
 use Rattle.record_text.proofs.Tells.{Tells, tells}
 use Rattle.reports.specs.Lines.{row, count_line, total_line}
 use Rattle.reports.specs.Rows.{own, found, record_line, record_lines}
-use Rattle.reports.specs.Piles.{summed, with_hidden, with_cut}
+use Rattle.reports.specs.Piles.{summed, with_hidden, with_kept, with_cut}
 use Rattle.reports.specs.Standing.{word_front, text_name}
 
 -- at the place of each node its name is found
@@ -100,9 +100,13 @@ module _ (f : ℕ → List ℕ) where
   hidden_own : (t : Bool) (w : List ℕ) (ns : List Node) (ps : List ℕ) → Named f ns ps → with_hidden (found f) t w ns ps ≡ with_hidden own t w ns ps
   hidden_own t w ns ps h = summed_own t (without w ns ns) (without w ns ps) (named_shown w _ ns ns ps h)
 
-  pub cut_own : (t : Bool) (w : List ℕ) (c : Maybe ℕ) (ns : List Node) (ps : List ℕ) → Named f ns ps → with_cut (found f) t w c ns ps ≡ with_cut own t w c ns ps
-  cut_own t w None ns ps h = hidden_own t w ns ps h
-  cut_own t w (Some n) ns ps h = hidden_own t w (cut_nodes n ns) (cut_part n ns ps) (named_cut n ns ps h)
+  kept_own : (t : Bool) (w : Maybe (List ℕ)) (ns : List Node) (ps : List ℕ) → Named f ns ps → with_kept (found f) t w ns ps ≡ with_kept own t w ns ps
+  kept_own t None ns ps h = summed_own t ns ps h
+  kept_own t (Some w) ns ps h = hidden_own t w ns ps h
+
+  pub cut_own : (t : Bool) (w : Maybe (List ℕ)) (c : Maybe ℕ) (ns : List Node) (ps : List ℕ) → Named f ns ps → with_cut (found f) t w c ns ps ≡ with_cut own t w c ns ps
+  cut_own t w None ns ps h = kept_own t w ns ps h
+  cut_own t w (Some n) ns ps h = kept_own t w (cut_nodes n ns) (cut_part n ns ps) (named_cut n ns ps h)
 
 -- a block's nodes are numbered by their places
 named_counting : (f : ℕ → List ℕ) (g : ℕ → Node) (i m : ℕ) → ((k : ℕ) → i ≤ k → k < i + m → f k ≡ (g k).name) → Named f (map g (range_with_len i m)) (range_with_len i m)

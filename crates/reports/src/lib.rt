@@ -12,7 +12,8 @@ mod standing;
 mod values;
 
 pub use laws::one_report;
-pub use outlines::{MOST_INPUT, outline, refused};
+pub use listings::{MOST_INPUT, refused};
+pub use outlines::outline;
 pub use piles::{Asked, list_asked};
 pub use rows::{Names, list_record};
 pub use sources::{outline_block, outline_text};

@@ -1,14 +1,28 @@
 // Reports of record text: one reading of the input for whatever is then said of the record.
 ghost use Rattle.std.specs.Prelude.{◌≡◌, ℕ, List, IfOk};
+ghost use Rattle.refusals.specs.Refusals.{number, places};
+ghost use Rattle.reports.specs.Lines.{refused_line};
 ghost use Rattle.record_text.specs.declared.entry.Entry.{Entry};
 ghost use Rattle.record_text.specs.Opening.{Reads};
 ghost use Rattle.reports.specs.Outlines.{Outlined, Reported};
 
-use crate::outlines::{MOST_INPUT, refused};
+use crate::report::Report;
 use record_text::{Entry, open};
 use records::MOST_NODES;
 use refusals::Refusal;
 use std::alloc::{AllocError, Global};
+
+// The most bytes that an input may have.
+pub const MOST_INPUT: usize = 16384;
+
+// A report that is the line of a refusal.
+pub fn refused(heap: Global, refusal: Refusal) -> Result<Vec<u8>, AllocError>
+    ensures { IfOk result (λ v. v.items ≡ refused_line (number refusal) (places refusal)) }
+{
+    let mut report = Report::new(heap);
+    report.push_refused(refusal)?;
+    Ok(report.into_bytes())
+}
 
 // What is said of a record text.
 pub(crate) trait Listing {

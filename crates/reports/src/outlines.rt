@@ -1,27 +1,13 @@
-// A record as a list of its nodes.
+// A record as a list of its nodes: the report of a text's entries, which needs no record over them.
 ghost use Rattle.std.specs.Prelude.{◌≡◌, ◌++◌, IfOk, OnOk};
-ghost use Rattle.refusals.specs.Refusals.{number, places};
-ghost use Rattle.reports.specs.Lines.{name_text, node_line, node_lines, refused_line};
+ghost use Rattle.reports.specs.Lines.{name_text, node_line, node_lines};
 ghost use Rattle.reports.specs.Outlines.{Outlined, listing};
 
 use crate::listings::{Listing, report_input};
 use crate::report::{Report, Row};
 use lexical::{after, part};
 use record_text::Entry;
-use refusals::Refusal;
 use std::alloc::{AllocError, Global};
-
-// The most bytes that an input may have.
-pub const MOST_INPUT: usize = 16384;
-
-// A report that is the line of a refusal.
-pub fn refused(heap: Global, refusal: Refusal) -> Result<Vec<u8>, AllocError>
-    ensures { IfOk result (λ v. v.items ≡ refused_line (number refusal) (places refusal)) }
-{
-    let mut report = Report::new(heap);
-    report.refused(refusal)?;
-    Ok(report.into_bytes())
-}
 
 // The name of a node.
 fn name_of<'a>(text: &'a [u8], node: &Entry) -> &'a [u8]
@@ -34,7 +20,7 @@ fn name_of<'a>(text: &'a [u8], node: &Entry) -> &'a [u8]
 fn push_node(report: &mut Report, text: &[u8], index: usize, node: &Entry) -> Result<(), AllocError>
     ensures { OnOk result (report.new ≡ report.old ++ node_line text.now index node.now) }
 {
-    report.row(Row {
+    report.push_row(Row {
         index,
         place: node.start,
         depth: node.depth,
@@ -63,7 +49,7 @@ impl Listing for Nodes {
     fn list(&self, heap: Global, text: &[u8], entries: &[Entry]) -> Result<Vec<u8>, AllocError> {
         let mut report = Report::new(heap);
         push_nodes(&mut report, text, entries)?;
-        report.count(entries.len())?;
+        report.push_count(entries.len())?;
         Ok(report.into_bytes())
     }
 }

@@ -1,6 +1,6 @@
 // The report of a record under layers.
 ghost use Rattle.std.specs.Prelude.{◌≡◌, IfOk};
-ghost use Rattle.reports.specs.Piles.{asked_of, summed, with_hidden};
+ghost use Rattle.reports.specs.Piles.{asked_of, kept_of, summed};
 ghost use Rattle.reports.specs.Rows.{found};
 
 use crate::report::Report;
@@ -14,11 +14,12 @@ use std::alloc::{AllocError, Global};
 #[derive(Clone, Copy)]
 pub struct Asked<'w> {
     pub cut: Option<usize>,
-    pub hide: &'w [u8],
+    pub hide: Option<&'w [u8]>,
     pub total: bool,
 }
 
-// The report of all nodes, with the sum of their values if asked.
+// The report of all nodes, with the sum of their values if asked. (Here and below the names stay those of what the record comes from,
+// while each layer makes another record: so `source` and `names` are two parameters.)
 fn list_summed<R: Record, N: Names>(
     heap: Global,
     source: &R,
@@ -30,21 +31,24 @@ fn list_summed<R: Record, N: Names>(
     let mut report = Report::new(heap);
     push_record(&mut report, source, names)?;
     if with_total {
-        report.total(total(source))?;
+        report.push_total(total(source))?;
     }
     Ok(report.into_bytes())
 }
 
-// The report without the nodes of a name.
-fn list_hidden<R: Record, N: Names>(
+// The report of the nodes that are not hidden.
+fn list_kept<R: Record, N: Names>(
     heap: Global,
     source: &R,
     names: &N,
     asked: Asked<'_>,
 ) -> Result<Vec<u8>, AllocError>
-    ensures { IfOk result (λ v. v.items ≡ with_hidden (found (N.stands names.now)) asked.entry.total asked.entry.hide.now (R.nodes source.now) (R.places source.now)) }
+    ensures { IfOk result (λ v. v.items ≡ kept_of (found (N.stands names.now)) asked.entry (R.nodes source.now) (R.places source.now)) }
 {
-    let view = View::hide(heap, source, asked.hide)?;
+    let Some(name) = asked.hide else {
+        return list_summed(heap, source, names, asked.total);
+    };
+    let view = View::hide(heap, source, name)?;
     list_summed(heap, &view, names, asked.total)
 }
 
@@ -58,8 +62,8 @@ pub fn list_asked<R: Record, N: Names>(
     ensures { IfOk result (λ v. v.items ≡ asked_of (found (N.stands names.now)) asked.entry (R.nodes source.now) (R.places source.now)) }
 {
     let Some(n) = asked.cut else {
-        return list_hidden(heap, source, names, asked);
+        return list_kept(heap, source, names, asked);
     };
     let view = View::cut(heap, source, n)?;
-    list_hidden(heap, &view, names, asked)
+    list_kept(heap, &view, names, asked)
 }

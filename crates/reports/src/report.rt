@@ -47,7 +47,7 @@ impl Report {
     }
 
     // Adds the line of a node.
-    pub fn row(&mut self, node: Row<'_>) -> Result<(), AllocError>
+    pub fn push_row(&mut self, node: Row<'_>) -> Result<(), AllocError>
         ensures { OnOk result (self.new ≡ self.old ++ row node.entry.index node.entry.place node.entry.depth node.entry.name.now node.entry.value) }
     {
         let heap = *self.bytes.allocator();
@@ -67,7 +67,7 @@ impl Report {
     }
 
     // Adds the line that counts the nodes.
-    pub fn count(&mut self, nodes: usize) -> Result<(), AllocError>
+    pub fn push_count(&mut self, nodes: usize) -> Result<(), AllocError>
         ensures { OnOk result (self.new ≡ self.old ++ count_line nodes) }
     {
         let line = format!(in *self.bytes.allocator(); "{nodes} nodes\n")?;
@@ -75,7 +75,7 @@ impl Report {
     }
 
     // Adds the line of the sum of values.
-    pub fn total(&mut self, total: i64) -> Result<(), AllocError>
+    pub fn push_total(&mut self, total: i64) -> Result<(), AllocError>
         ensures { OnOk result (self.new ≡ self.old ++ total_line total) }
     {
         let sum = Hundredths(total);
@@ -84,7 +84,7 @@ impl Report {
     }
 
     // Adds the line of a refusal.
-    pub fn refused(&mut self, refusal: Refusal) -> Result<(), AllocError>
+    pub fn push_refused(&mut self, refusal: Refusal) -> Result<(), AllocError>
         ensures { OnOk result (self.new ≡ self.old ++ refused_line (number refusal) (places refusal)) }
     {
         let line = format!(in *self.bytes.allocator(); "{refusal}\n")?;

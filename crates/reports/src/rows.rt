@@ -33,7 +33,7 @@ fn push_record_line<R: Record, N: Names>(
     ensures { OnOk result (report.new ≡ report.old ++ record_line (found (N.stands names.now)) (R.nodes source.now) (R.places source.now) n) }
 {
     let place = source.place(n);
-    report.row(Row {
+    report.push_row(Row {
         index: n,
         place,
         depth: source.depth(n),
@@ -66,7 +66,7 @@ pub(crate) fn push_record<R: Record, N: Names>(
     ensures { OnOk result (report.new ≡ report.old ++ record_listing (found (N.stands names.now)) (R.nodes source.now) (R.places source.now)) }
 {
     push_lines(report, source, names)?;
-    report.count(source.count())
+    report.push_count(source.count())
 }
 
 // The report of a record: a line a node, and their count.

@@ -3,8 +3,7 @@ ghost use Rattle.std.specs.Prelude.{◌≡◌, IfOk};
 ghost use Rattle.reports.specs.Outlines.{Outlined};
 ghost use Rattle.reports.specs.Sources.{block_report, text_listing};
 
-use crate::listings::{Listing, report_input};
-use crate::outlines::refused;
+use crate::listings::{Listing, refused, report_input};
 use crate::piles::{Asked, list_asked};
 use crate::standing::TextNames;
 use blocks::BlockRecord;

@@ -23,6 +23,7 @@ impl fmt::Display for Hundredths {
     ghost output = { λ h. Some (value_text h.0) };
 
     fn fmt<W: fmt::Write>(&self, f: &mut fmt::Formatter<W>) -> fmt::Result {
+        // Digit by digit, as the definition has it.
         let sign = sign(self.0);
         let size = self.0.unsigned_abs();
         let whole = size / 100;
