@@ -53,10 +53,9 @@ fn answer(rt: &HostRuntime, block: &[u8]) -> anyhow::Result<()> {
         Ok(()) => {
             let count = record.count();
             println!(rt; "ok {count}")?;
-            for n in 0..count {
+            for n in 0..=count {
                 show_node(rt, &record, block, n)?;
             }
-            show_node(rt, &record, block, count)?;
         }
         Err(refusal) => println!(rt; "{refusal}")?,
     }
@@ -93,7 +92,6 @@ fn answer_all(rt: &HostRuntime, input: &[u8]) -> anyhow::Result<()> {
 
 fn main(rt: HostRuntime) -> anyhow::Result<()> {
     let mut input = Vec::new(rt.alloc());
-    let mut source = rt.stdin();
-    let _ = source.read_to_end(&mut input)?;
-    answer_all(&rt, input.as_slice())
+    rt.stdin().read_to_end(&mut input)?;
+    answer_all(&rt, &input)
 }

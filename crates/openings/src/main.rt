@@ -10,16 +10,15 @@ const LONGEST_LIST: usize = 5000;
 
 fn show_nodes(rt: &HostRuntime, nodes: &[Entry]) -> anyhow::Result<()> {
     for node in nodes {
-        let start = node.start;
-        let end = node.end;
-        let name_len = node.name_len;
-        let depth = node.depth;
-        let kind = if node.value.is_some() {
-            "leaf"
-        } else {
-            "branch"
-        };
-        let value = node.value.unwrap_or_default();
+        let Entry {
+            start,
+            end,
+            name_len,
+            depth,
+            value,
+        } = *node;
+        let kind = if value.is_some() { "leaf" } else { "branch" };
+        let value = value.unwrap_or_default();
         println!(rt; "{start} {end} {name_len} {depth} {kind} {value}")?;
     }
     Ok(())
@@ -29,9 +28,7 @@ fn show(rt: &HostRuntime, text: &[u8], list: &mut [Entry]) -> anyhow::Result<()>
     match open(text, list) {
         Ok(n) => {
             println!(rt; "ok {n}")?;
-            if n <= list.len() {
-                show_nodes(rt, &list[0..n])?;
-            }
+            show_nodes(rt, &list[..n])?;
         }
         Err(refusal) => println!(rt; "{refusal}")?,
     }
@@ -57,10 +54,10 @@ fn read_case(case: &[u8]) -> (usize, &[u8]) {
 
 fn answer(rt: &HostRuntime, case: &[u8], list: &mut [Entry]) -> anyhow::Result<()> {
     let (n, text) = read_case(case);
-    if n <= list.len() {
-        show(rt, text, &mut list[..n])?;
+    match list.get_mut(..n) {
+        Some(lent) => show(rt, text, lent),
+        None => Ok(()),
     }
-    Ok(())
 }
 
 // Bytes after the last 0 are no case.
@@ -75,9 +72,7 @@ fn answer_all(rt: &HostRuntime, input: &[u8], list: &mut [Entry]) -> anyhow::Res
 
 fn main(rt: HostRuntime) -> anyhow::Result<()> {
     let mut input = Vec::new(rt.alloc());
-    let mut source = rt.stdin();
-    let _ = source.read_to_end(&mut input)?;
-    let none = Entry::default();
-    let mut list = vec![in rt.alloc(); none; LONGEST_LIST]?;
-    answer_all(&rt, input.as_slice(), list.as_mut_slice())
+    rt.stdin().read_to_end(&mut input)?;
+    let mut list = vec![in rt.alloc(); Entry::default(); LONGEST_LIST]?;
+    answer_all(&rt, &input, &mut list)
 }

@@ -3,7 +3,7 @@ use reports::Asked;
 use std::env::Args;
 
 // What the arguments ask for.
-#[derive(Drop)]
+#[derive(Default, Drop)]
 pub struct Command {
     pub block: bool,
     cut: Option<usize>,
@@ -14,12 +14,7 @@ pub struct Command {
 impl Command {
     // The command that the arguments give, if they give one.
     pub fn read(args: Args) -> Option<Command> {
-        let mut command = Command {
-            block: false,
-            cut: None,
-            hide: None,
-            total: false,
-        };
+        let mut command = Command::default();
         // The first is the program's own name.
         let mut args = args.skip(1);
         while let Some(arg) = args.next() {

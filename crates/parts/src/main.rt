@@ -40,8 +40,7 @@ fn show_second(
 
 // The first part: the list is gone before it is printed.
 fn first_alone(heap: Global, text: &[u8]) -> anyhow::Result<&[u8]> {
-    let none = Entry::default();
-    let mut list = vec![in heap; none; MOST_NODES]?;
+    let mut list = vec![in heap; Entry::default(); MOST_NODES]?;
     let _ = open(text, &mut list);
     Ok(first_part(text, &list))
 }
@@ -50,8 +49,7 @@ fn main(rt: HostRuntime) -> anyhow::Result<()> {
     let heap = rt.alloc();
     let mut text = Vec::new(heap);
     rt.stdin().read_to_end(&mut text)?;
-    let none = Entry::default();
-    let mut list = vec![in heap; none; MOST_NODES]?;
+    let mut list = vec![in heap; Entry::default(); MOST_NODES]?;
     let good = match open(&text, &mut list) {
         Ok(nodes) => &list[..nodes],
         Err(_) => &[],

@@ -19,15 +19,13 @@ fn open_often(text: &[u8], list: &mut [Entry], times: usize) -> usize {
 
 fn main(rt: HostRuntime) -> anyhow::Result<()> {
     let mut input = Vec::new(rt.alloc());
-    let mut source = rt.stdin();
-    let _ = source.read_to_end(&mut input)?;
+    rt.stdin().read_to_end(&mut input)?;
     let [how_often, text @ ..] = input.as_slice() else {
         return Ok(());
     };
     let times = if *how_often == b'1' { 2001 } else { 1 };
-    let none = Entry::default();
-    let mut list = vec![in rt.alloc(); none; MOST_NODES]?;
-    let nodes = open_often(text, list.as_mut_slice(), times);
+    let mut list = vec![in rt.alloc(); Entry::default(); MOST_NODES]?;
+    let nodes = open_often(text, &mut list, times);
     println!(rt; "{nodes}")?;
     Ok(())
 }
