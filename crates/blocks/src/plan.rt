@@ -1,8 +1,8 @@
 // Where things stand in a block.
-ghost use Rattle.std.specs.Prelude.{◌≡◌, ℕ, ◌+◌, ◌*◌, ◌<◌, ◌≤◌, true, false, None, MatchOption, if◌then◌else◌, length, nat_lt, slice_index};
+ghost use Rattle.std.specs.Prelude.{◌≡◌, ℕ, ◌+◌, ◌*◌, ◌<◌, ◌≤◌, true, false, [], None, MatchOption, if◌then◌else◌, length, nat_lt, slice_index};
 ghost use Rattle.records.specs.Limits.{most_nodes};
 ghost use Rattle.blocks.specs.Layout.{most_names, node_bytes};
-ghost use Rattle.blocks.specs.Places.{all_words, good_block, name_count, name_of, name_start, node_count, node_start};
+ghost use Rattle.blocks.specs.Places.{all_words, block_nodes, good_block, name_count, name_of, name_start, node_count, node_start};
 ghost use Rattle.blocks.specs.Reading.{Named, room_after, row_at};
 
 use super::bytes::{byte, name_at, number16};
@@ -16,11 +16,11 @@ use records::MOST_NODES;
 // questions need no heap: a rule of the project.
 #[derive(Drop)]
 pub struct Plan<'b> {
-    pub block: &'b [u8],
-    pub names: u16,
-    pub starts: [u16; MOST_NAMES],
-    pub first: usize,
-    pub count: usize,
+    pub(crate) block: &'b [u8],
+    names: u16,
+    starts: [u16; MOST_NAMES],
+    first: usize,
+    pub(crate) count: usize,
     ghost named: { names ≡ name_count block.now },
     ghost few_names: { names ≤ most_names },
     ghost words: { all_words block.now (name_count block.now) ≡ true },
@@ -36,7 +36,7 @@ fn read_names(block: &[u8], starts: &mut [u16]) -> Option<u16>
     requires { length starts.old ≤ most_names }
     ensures { MatchOption result (all_words block.now (length starts.old) ≡ false) (λ end. Named block.now starts.new end) }
 {
-    // The names begin behind their count, which takes two bytes.
+    // The names begin behind their count, which takes two bytes. A place is added up, since the table keeps places and not what is left.
     let mut at: u16 = 2;
     for start in starts.iter_mut() {
         if !is_word(name_at(block, at)) {
@@ -49,6 +49,20 @@ fn read_names(block: &[u8], starts: &mut [u16]) -> Option<u16>
 }
 
 impl<'b> Plan<'b> {
+    // The plan of the block that counts no name and no node.
+    pub(crate) fn empty() -> Plan<'b>
+        ensures nodes { block_nodes result.block.now ≡ [] }
+        ensures good { good_block result.block.now ≡ true }
+    {
+        Plan {
+            block: &[0, 0, 0, 0],
+            names: 0,
+            starts: [0; MOST_NAMES],
+            first: 4,
+            count: 0,
+        }
+    }
+
     // The plan of a block; none where the names or the length are not good.
     pub(crate) fn of(block: &'b [u8]) -> Option<Plan<'b>>
         ensures { MatchOption result (good_block block.now ≡ false) (λ p. p.block.now ≡ block.now) }
