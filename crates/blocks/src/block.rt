@@ -68,7 +68,7 @@ impl<'b> Record for BlockRecord<'b> {
     ghost placed = { λ x. block_level x.plan.block.now };
 
     fn count(&self) -> usize {
-        self.plan.count
+        self.plan.count()
     }
 
     fn depth(&self, n: usize) -> usize {
