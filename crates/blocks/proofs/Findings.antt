@@ -1,9 +1,8 @@
 -- What is answered of a node that is there, and of one that is not.
-use Rattle.std.proofs.Common.{◌≡◌, ℕ, ◌<◌, ◌≤◌, Bool, true, false, cond, ◌&&◌, ltb, List, length, get_or, MatchOption, Some, None, Option, sym, refl, subst, ap, ◌∙◌, arith}
-use Rattle.std.specs.Str.{bytes_eq}
+use Rattle.std.proofs.Common.{◌≡◌, ℕ, ◌<◌, ◌≤◌, Bool, true, false, cond, ltb, List, length, get_or, MatchOption, Some, None, Option, sym, refl, subst, ap, ◌∙◌, arith}
 use Rattle.std.proofs.lemmas.List.FromFn.{get_or-range_with_len, get_or-map-range_with_len, length-range_with_len}
 use Rattle.std.proofs.lemmas.List.{get_or_past}
-use Rattle.std.proofs.lemmas.Bool.{and_left, and_parts, le-ltb, lt-ltb, ltb-true, ltb-false}
+use Rattle.std.proofs.lemmas.Bool.{and_parts, ltb-true, ltb-false}
 use Rattle.records.specs.Nodes.{Node, no_node}
 use Rattle.blocks.specs.Places.{block_nodes, block_places, good_block, name_count, name_number, node_at, node_count, node_depth, node_fits, node_start, node_value}
 use Rattle.blocks.specs.Reading.{Found, Missing, row_at}
@@ -28,10 +27,8 @@ module _ (bs : List ℕ) (n : ℕ) where
         record {
           depth = ap (λ (m : Node). m.depth) (sym is);
           value = ap (λ (m : Node). m.value) (sym is);
-          named = λ w. sym (ap (λ (t : Bool). t && bytes_eq (get_or (block_nodes bs) n no_node).name w) (lt-ltb n (length (block_nodes bs)) (omega arith)) ∙ ap (λ (m : Node). bytes_eq m.name w) is);
           name = ap (λ (m : Node). m.name) (sym is);
           known = ltb-true (name_number bs (node_start bs n)) (name_count bs) both.0;
-          place = sym (get_or-range_with_len 0 (node_count bs) n 0 there ∙ omega arith);
         },
       )
 
@@ -43,10 +40,19 @@ module _ (bs : List ℕ) (n : ℕ) where
       record {
         depth = ap (λ (m : Node). m.depth) (sym is);
         value = ap (λ (m : Node). m.value) (sym is);
-        named = λ w. sym (and_left (ltb n (length (block_nodes bs))) _ (le-ltb n (length (block_nodes bs)) h));
         name = ap (λ (m : Node). m.name) (sym is);
-        place = sym (let k = length-range_with_len 0 (node_count bs) in get_or_past (block_places bs) n 0 (omega arith));
       }
+
+  -- the place of node n, where there are so many nodes
+  module _ {k : ℕ} (count : k ≡ length (block_nodes bs)) where
+    pub place_here : n < k → n ≡ get_or (block_places bs) n 0
+    place_here l = let e = block_length bs in sym (get_or-range_with_len 0 (node_count bs) n 0 (omega arith) ∙ omega arith)
+
+    pub place_past : k ≤ n → 0 ≡ get_or (block_places bs) n 0
+    place_past l =
+        let e = block_length bs in
+        let places = length-range_with_len 0 (node_count bs) in
+        sym (get_or_past (block_places bs) n 0 (omega arith))
 
   -- what is answered of node n
   pub finding : good_block bs ≡ true → MatchOption (cond (ltb n (node_count bs)) (row_at bs (node_start bs n)) None) (Missing bs n) (λ r. Found bs n r)

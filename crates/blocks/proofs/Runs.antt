@@ -1,7 +1,9 @@
 -- The nodes of a block, one after another.
-use Rattle.std.proofs.Common.{◌≡◌, ℕ, zero, suc, ◌+◌, ◌-◌, ◌<◌, ◌≤◌, Bool, true, false, cond, ◌&&◌, eqb, ltb, leb, List, map, length, take, drop, ℤ, pos, negsuc, neg_ℤ, nat_abs, Some, None, Option, sym, refl, ap, ◌∙◌, arith}
+use Rattle.std.proofs.Common.{◌≡◌, ℕ, zero, suc, ◌+◌, ◌*◌, ◌-◌, ◌/◌, ◌<◌, ◌≤◌, Bool, true, false, cond, ◌&&◌, eqb, ltb, leb, List, [], map, length, get_or, take, drop, ℤ, pos, negsuc, neg_ℤ, nat_abs, Some, None, Option, MatchOption, sym, refl, subst, ap, ◌∙◌, arith, length-drop}
 use Rattle.std.specs.List.{range_with_len, list_all}
-use Rattle.std.proofs.lemmas.List.{take_rest}
+use Rattle.std.specs.Simd.{first_chunks}
+use Rattle.std.proofs.lemmas.List.{drop-drop, take_rest}
+use Rattle.std.proofs.Math.Nat.{mul-div_cancel_left}
 use Rattle.std.proofs.lemmas.Bool.{and_parts, eq-eqb, le-leb, leb-true, ltb-true}
 use Rattle.lexical.specs.Rounding.{hundredths, nearest}
 use Rattle.lexical.specs.Words.{word}
@@ -9,8 +11,9 @@ use Rattle.records.specs.Limits.{greatest_value, most_levels, most_nodes}
 use Rattle.records.specs.Nodes.{next_depth, ranged, shaped}
 use Rattle.blocks.specs.Layout.{branch, greatest_thousandths, leaf, most_names}
 use Rattle.blocks.specs.Places.{all_fit, all_words, block_nodes, good_block, name_count, name_of, name_number, node_at, node_count, node_depth, node_fits, node_kind, node_start, node_thousandths, node_value, size_fits}
-use Rattle.blocks.specs.Reading.{follows, room_after, row_at, row_of}
+use Rattle.blocks.specs.Reading.{follows, room_after, room_of, row_at, row_of}
 use Rattle.blocks.specs.declared.plan.Plan.{Plan}
+use Rattle.blocks.specs.declared.row.Row.{Row}
 use Rattle.blocks.proofs.Alls.{all_at}
 use Rattle.blocks.proofs.Deriving.{row_cut}
 
@@ -87,23 +90,64 @@ module _ (bs : List ℕ) (few_names : name_count bs ≤ most_names) (words : all
       ∙ ap (λ (t : Bool). t && (eqb (length bs) (node_start bs (node_count bs)) && (all_fit bs (node_count bs) && shaped 0 (block_nodes bs)))) (le-leb (node_count bs) most_nodes few_nodes)
       ∙ ap (λ (t : Bool). t && (all_fit bs (node_count bs) && shaped 0 (block_nodes bs))) (eq-eqb (length bs) (node_start bs (node_count bs)) whole)
 
-  run_decides : (n : ℕ) (t : Bool) → n ≡ node_count bs → run bs 0 0 n ≡ t → t ≡ good_block bs
-  run_decides n t e r = sym r ∙ ap (run bs 0 0) e ∙ run_is bs words 0 0 (node_count bs) ∙ sym nodes_decide
+  run_decides : (t : Bool) → run bs 0 0 (node_count bs) ≡ t → t ≡ good_block bs
+  run_decides t r = sym r ∙ run_is bs words 0 0 (node_count bs) ∙ sym nodes_decide
 
 -- the same of a plan
-pub plan_decides : (x : Plan) (t : Bool) → run x.block.now 0 0 x.count ≡ t → t ≡ good_block x.block.now
+pub plan_decides : (x : Plan) (t : Bool) → run x.block.now 0 0 (node_count x.block.now) ≡ t → t ≡ good_block x.block.now
 plan_decides x t r =
     let named = x.named in
     let few_names = x.few_names in
-    let counts = x.counts in
-    let few = x.few in
-    let begins = x.begins in
-    let whole = x.whole in
-    run_decides x.block.now (omega arith) x.words (omega arith) (omega arith) x.count t x.counts r
+    run_decides x.block.now (omega arith) x.words x.few x.whole t r
 
 -- a node is read from the bytes at its place
-pub row_read : (bs : List ℕ) (at place : ℕ) → place ≡ at → at + 7 ≤ length bs → row_of (take (length bs - place) (drop place bs)) ≡ row_at bs at
-row_read bs at place e h = ap (λ (k : ℕ). row_of (take (length bs - k) (drop k bs))) e ∙ ap row_of (take_rest bs at ∙ row_cut bs at h)
+module _ (bs : List ℕ) where
+  chunk_at : (k i : ℕ) (xs : List ℕ) → i < k → get_or (first_chunks 7 k xs) i [] ≡ take 7 (drop (7 * i) xs)
+  chunk_at zero i xs h = absurd (omega arith)
+  chunk_at (suc k) zero xs h = refl
+  chunk_at (suc k) (suc i) xs h = chunk_at k i (drop 7 xs) (omega arith) ∙ ap (take 7) (drop-drop (7 * i) 7 xs ∙ ap (λ (n : ℕ). drop n xs) (omega arith))
+
+  -- the bytes from a place on, which are k nodes
+  module _ (first k : ℕ) (whole : length bs ≡ first + 7 * k) (nodes : List (List ℕ)) where
+    abbrev rest : List ℕ
+    rest = take (length bs - first) (drop first bs)
+
+    rest_count : length rest / 7 ≡ k
+    rest_count =
+        let size : length rest ≡ 7 * k = ap length (take_rest bs first) ∙ length-drop first bs ∙ omega arith in
+        ap (λ (n : ℕ). n / 7) size ∙ mul-div_cancel_left k (omega arith)
+
+    pub nodes_count : length nodes ≡ length rest / 7 → length nodes ≡ k
+    nodes_count l = l ∙ rest_count
+
+    pub row_read : first ≡ node_start bs 0 → nodes ≡ first_chunks 7 (length rest / 7) rest → (i : ℕ) → i < k → row_of (get_or nodes i []) ≡ row_at bs (node_start bs i)
+    row_read e cut i h =
+        let at = node_start bs i in
+        let place : first + 7 * i ≡ at = omega arith in
+        ap (λ (l : List (List ℕ)). row_of (get_or l i [])) (cut ∙ ap (λ (n : ℕ). first_chunks 7 n rest) rest_count ∙ ap (first_chunks 7 k) (take_rest bs first))
+        ∙ ap row_of (chunk_at k i (drop first bs) h)
+        ∙ ap (λ (l : List ℕ). row_of (take 7 l)) (drop-drop (7 * i) first bs ∙ ap (λ (n : ℕ). drop n bs) place)
+        ∙ ap (λ (l : List ℕ). row_of (take 7 l)) (row_cut bs at (omega arith))
+
+-- what follows a node, from its bytes
+module _ (bs : List ℕ) (at m : ℕ) where
+  room_told : (r : Option ℕ) → MatchOption (row_at bs at) (r ≡ None) (λ row. r ≡ room_of (name_count bs) m row) → r ≡ room_after bs at m
+  room_told r =
+      let x = ltb (name_number bs at) (name_count bs) in
+      let y = leb (node_depth bs at) m && ltb (node_depth bs at) most_levels in
+      let next : Option ℕ = Some (next_room bs at) in
+      let row : Row = record { name = name_number bs at; depth = node_depth bs at; value = node_value bs at } in
+      elim (size_fits (node_kind bs at) (nat_abs (node_thousandths bs at))) as (λ s. MatchOption (cond s (Some row) None) (r ≡ None) (λ row. r ≡ room_of (name_count bs) m row) → r ≡ cond ((x && s) && y) next None) [
+        | true ↦ elim x as (λ t. r ≡ cond (t && y) next None → r ≡ cond ((t && true) && y) next None) [ true ↦ λ h. h | false ↦ λ h. h ]
+        | false ↦ elim x as (λ t. r ≡ None → r ≡ cond ((t && false) && y) next None) [ true ↦ λ h. h | false ↦ λ h. h ]
+      ]
+
+pub plan_room : (x : Plan) (i m : ℕ) (r : Option ℕ) → i < node_count x.block.now → MatchOption (row_of (get_or x.nodes.now i [])) (r ≡ None) (λ row. r ≡ room_of x.names m row) → r ≡ room_after x.block.now (node_start x.block.now i) m
+plan_room x i m r h told =
+    let at = node_start x.block.now i in
+    room_told x.block.now at m r
+    (subst (λ (k : ℕ). MatchOption (row_at x.block.now at) (r ≡ None) (λ row. r ≡ room_of k m row)) x.named
+    (subst (λ (o : Option Row). MatchOption o (r ≡ None) (λ row. r ≡ room_of x.names m row)) (x.rows i h) told))
 
 -- what a node's answer says of the run that it begins
 module _ (bs : List ℕ) (m i n : ℕ) where

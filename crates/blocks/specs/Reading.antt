@@ -1,11 +1,10 @@
 -- What the functions that read a block tell one another.
-use Rattle.std.specs.Prelude.{◌≡◌, ℕ, ◌+◌, ◌*◌, ◌<◌, ◌≤◌, Bool, true, false, cond, ◌&&◌, List, [], ◌∷◌, length, ℤ, Some, None, Option, ◌==◌, nat_le, nat_lt, slice_index, slice_index_or, unsigned_abs}
-use Rattle.std.specs.Str.{bytes_eq}
+use Rattle.std.specs.Prelude.{◌≡◌, ℕ, ◌+◌, ◌*◌, ◌<◌, ◌≤◌, Bool, true, cond, ◌&&◌, List, [], ◌∷◌, length, ℤ, Some, None, Option, ◌==◌, nat_le, nat_lt, slice_index, slice_index_or, unsigned_abs}
 use Rattle.lexical.specs.Rounding.{hundredths}
 use Rattle.records.specs.Limits.{most_levels}
-use Rattle.records.specs.Nodes.{no_node, next_depth, depth_at, value_at, named_at}
+use Rattle.records.specs.Nodes.{no_node, next_depth, depth_at, value_at}
 use Rattle.blocks.specs.Layout.{leaf, number32}
-use Rattle.blocks.specs.Places.{name_count, name_start, name_of, name_number, node_depth, node_kind, node_thousandths, node_value, node_fits, size_fits, block_nodes, block_places, all_words}
+use Rattle.blocks.specs.Places.{name_count, name_start, name_of, name_number, node_depth, node_kind, node_thousandths, node_value, node_fits, size_fits, block_nodes, all_words}
 use Rattle.blocks.specs.declared.row.Row.{Row}
 
 -- the names of a block that are words, with a table of where they start, and where they end
@@ -45,15 +44,11 @@ room_after bs at m = cond (follows bs at m) (Some (next_depth (node_value bs at)
 pub record Found (bs : List ℕ) (n : ℕ) (row : Row) : Type 0 where
   pub depth : row.depth ≡ depth_at (block_nodes bs) n
   pub value : row.value ≡ value_at (block_nodes bs) n
-  pub named : (w : List ℕ) → bytes_eq (name_of bs row.name) w ≡ named_at (block_nodes bs) n w
   pub name : name_of bs row.name ≡ (slice_index_or (block_nodes bs) n no_node).name
   pub known : row.name < name_count bs
-  pub place : n ≡ slice_index (block_places bs) n
 
 -- there is no node n, and each question is answered so
 pub record Missing (bs : List ℕ) (n : ℕ) : Type 0 where
   pub depth : 0 ≡ depth_at (block_nodes bs) n
   pub value : None ≡ value_at (block_nodes bs) n
-  pub named : (w : List ℕ) → false ≡ named_at (block_nodes bs) n w
   pub name : [] ≡ (slice_index_or (block_nodes bs) n no_node).name
-  pub place : 0 ≡ slice_index (block_places bs) n

@@ -6,7 +6,6 @@ ghost use Rattle.blocks.specs.Places.{block_nodes, block_places, good_block};
 ghost use Rattle.blocks.specs.Reading.{Found, Missing};
 ghost use Rattle.blocks.specs.Shaping.{block_level, block_shape};
 
-use super::layout::MOST_NAMES;
 use super::plan::Plan;
 use super::row::Row;
 use records::Record;
@@ -25,13 +24,7 @@ impl<'b> BlockRecord<'b> {
         ensures { block_nodes result.plan.block.now ≡ [] }
     {
         BlockRecord {
-            plan: Plan {
-                block: &[0, 0, 0, 0],
-                names: 0,
-                starts: [0; MOST_NAMES],
-                first: 4,
-                count: 0,
-            },
+            plan: Plan::empty(),
         }
     }
 
@@ -75,7 +68,7 @@ impl<'b> Record for BlockRecord<'b> {
     ghost placed = { λ x. block_level x.plan.block.now };
 
     fn count(&self) -> usize {
-        self.plan.count
+        self.plan.count()
     }
 
     fn depth(&self, n: usize) -> usize {
@@ -87,13 +80,10 @@ impl<'b> Record for BlockRecord<'b> {
     }
 
     fn place(&self, n: usize) -> usize {
-        self.find(n).map_or(0, |_| n)
+        if n < self.count() { n } else { 0 }
     }
 
     fn is_named(&self, n: usize, name: &[u8]) -> bool {
-        let Some(row) = self.find(n) else {
-            return false;
-        };
-        self.plan.name(row.name) == name
+        n < self.count() && self.name_of(n) == name
     }
 }

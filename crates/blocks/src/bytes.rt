@@ -2,7 +2,7 @@
 ghost use Rattle.std.specs.Prelude.{◌≡◌, slice_index};
 ghost use Rattle.blocks.specs.Places.{name_at, read16};
 
-// The byte at a place, or 0 past the end.
+// The byte at a place, or 0 past the end: the definition by places is total in this way, so no reader has to ask first.
 pub(crate) fn byte(bytes: &[u8], i: usize) -> u8
     ensures { result ≡ slice_index bytes.now i }
 {

@@ -1,9 +1,9 @@
 // Where things stand in a block.
-ghost use Rattle.std.specs.Prelude.{◌≡◌, ℕ, ◌+◌, ◌*◌, ◌<◌, ◌≤◌, true, false, None, MatchOption, if◌then◌else◌, length, nat_lt, slice_index};
+ghost use Rattle.std.specs.Prelude.{◌≡◌, ℕ, ◌+◌, ◌<◌, ◌≤◌, true, false, [], None, MatchOption, if◌then◌else◌, length, nat_lt, slice_index, slice_index_or};
 ghost use Rattle.records.specs.Limits.{most_nodes};
 ghost use Rattle.blocks.specs.Layout.{most_names, node_bytes};
-ghost use Rattle.blocks.specs.Places.{all_words, good_block, name_count, name_of, name_start, node_count, node_start};
-ghost use Rattle.blocks.specs.Reading.{Named, room_after, row_at};
+ghost use Rattle.blocks.specs.Places.{all_words, block_nodes, good_block, name_count, name_of, name_start, node_count, node_start};
+ghost use Rattle.blocks.specs.Reading.{Named, room_of, row_at, row_of};
 
 use super::bytes::{byte, name_at, number16};
 use super::layout::{MOST_NAMES, NODE_BYTES};
@@ -11,24 +11,23 @@ use super::row::Row;
 use lexical::is_word;
 use records::MOST_NODES;
 
-// A block whose names are words, and which has the length that its counts say: where each name starts, where the first node does, and
-// how many nodes there are. The table is what lets every question be answered without a walk. It has room for the most names, since
-// questions need no heap: a rule of the project.
+// A block whose names are words, and which has the length that its counts say: where each name starts, and the bytes of each node. The
+// table is what lets every question be answered without a walk. It has room for the most names, since questions need no heap: a rule of
+// the project.
 #[derive(Drop)]
 pub struct Plan<'b> {
-    pub block: &'b [u8],
-    pub names: u16,
-    pub starts: [u16; MOST_NAMES],
-    pub first: usize,
-    pub count: usize,
+    pub(crate) block: &'b [u8],
+    names: u16,
+    starts: [u16; MOST_NAMES],
+    nodes: &'b [[u8; NODE_BYTES]],
     ghost named: { names ≡ name_count block.now },
     ghost few_names: { names ≤ most_names },
     ghost words: { all_words block.now (name_count block.now) ≡ true },
     ghost table: { (k : ℕ) → k < name_count block.now → slice_index starts k ≡ name_start block.now k },
-    ghost begins: { first ≡ node_start block.now 0 },
-    ghost counts: { count ≡ node_count block.now },
-    ghost few: { count ≤ most_nodes },
-    ghost whole: { length block.now ≡ first + node_bytes * count },
+    ghost counts: { length nodes.now ≡ node_count block.now },
+    ghost few: { node_count block.now ≤ most_nodes },
+    ghost whole: { length block.now ≡ node_start block.now (node_count block.now) },
+    ghost rows: { (i : ℕ) → i < node_count block.now → row_of (slice_index_or nodes.now i []) ≡ row_at block.now (node_start block.now i) },
 }
 
 // Writes down where each name starts, and answers where the last one ends; none where a name is no word.
@@ -36,7 +35,7 @@ fn read_names(block: &[u8], starts: &mut [u16]) -> Option<u16>
     requires { length starts.old ≤ most_names }
     ensures { MatchOption result (all_words block.now (length starts.old) ≡ false) (λ end. Named block.now starts.new end) }
 {
-    // The names begin behind their count, which takes two bytes.
+    // The names begin behind their count, which takes two bytes. A place is added up, since the table keeps places and not what is left.
     let mut at: u16 = 2;
     for start in starts.iter_mut() {
         if !is_word(name_at(block, at)) {
@@ -48,7 +47,27 @@ fn read_names(block: &[u8], starts: &mut [u16]) -> Option<u16>
     Some(at)
 }
 
+// The greatest depth that may follow the node of these bytes; none where it does not fit, or lies deeper than `room`.
+fn room_after(bytes: &[u8; NODE_BYTES], names: u16, room: u8) -> Option<u8>
+    ensures { MatchOption (row_of bytes.now) (result ≡ None) (λ row. result ≡ room_of names room row) }
+{
+    Row::read(bytes)?.room_after(names, room)
+}
+
 impl<'b> Plan<'b> {
+    // The plan of the block that counts no name and no node.
+    pub(crate) fn empty() -> Plan<'b>
+        ensures nodes { block_nodes result.block.now ≡ [] }
+        ensures good { good_block result.block.now ≡ true }
+    {
+        Plan {
+            block: &[0, 0, 0, 0],
+            names: 0,
+            starts: [0; MOST_NAMES],
+            nodes: &[],
+        }
+    }
+
     // The plan of a block; none where the names or the length are not good.
     pub(crate) fn of(block: &'b [u8]) -> Option<Plan<'b>>
         ensures { MatchOption result (good_block block.now ≡ false) (λ p. p.block.now ≡ block.now) }
@@ -64,41 +83,36 @@ impl<'b> Plan<'b> {
         if count > MOST_NODES || block.len() != first + NODE_BYTES * count {
             return None;
         }
+        let (nodes, _) = block[first..].as_chunks::<NODE_BYTES>();
         Some(Plan {
             block,
             names,
             starts,
-            first,
-            count,
+            nodes,
         })
+    }
+
+    // How many nodes there are.
+    pub(crate) fn count(&self) -> usize
+        ensures { result ≡ node_count self.now.block.now }
+    {
+        self.nodes.len()
     }
 
     // Node i; none where there is none, or its value does not fit.
     pub(crate) fn row(&self, i: usize) -> Option<Row>
-        ensures { result ≡ (if nat_lt i self.now.count then row_at self.now.block.now (node_start self.now.block.now i) else None) }
+        ensures { result ≡ (if nat_lt i (node_count self.now.block.now) then row_at self.now.block.now (node_start self.now.block.now i) else None) }
     {
-        if i >= self.count {
-            return None;
-        }
-        Row::read(&self.block[self.first + NODE_BYTES * i..])
-    }
-
-    // The greatest depth that may follow node i; none where it does not fit, or lies deeper than `room`.
-    fn room_after(&self, i: usize, room: u8) -> Option<u8>
-        requires { i < self.now.count }
-        ensures { result ≡ room_after self.now.block.now (node_start self.now.block.now i) room }
-    {
-        self.row(i)?.room_after(self.names, room)
+        Row::read(self.nodes.get(i)?)
     }
 
     // Whether the nodes fit, in the shape of records.
     pub(crate) fn is_good(&self) -> bool
         ensures { result ≡ good_block self.now.block.now }
     {
-        // The nodes are walked by number, since that is how each question reads one.
         let mut room = 0;
-        for i in 0..self.count {
-            let Some(next) = self.room_after(i, room) else {
+        for bytes in self.nodes {
+            let Some(next) = room_after(bytes, self.names, room) else {
                 return false;
             };
             room = next;

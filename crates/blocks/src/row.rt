@@ -2,7 +2,7 @@
 ghost use Rattle.std.specs.Prelude.{◌≡◌};
 ghost use Rattle.blocks.specs.Reading.{room_of, row_of};
 
-use super::layout::{BRANCH, GREATEST_THOUSANDTHS, LEAF};
+use super::layout::{BRANCH, GREATEST_THOUSANDTHS, LEAF, NODE_BYTES};
 use lexical::hundredths;
 use records::MOST_LEVELS;
 
@@ -15,13 +15,11 @@ pub struct Row {
 }
 
 impl Row {
-    // The node that bytes begin with; none where they are too few, or its value does not fit its kind.
-    pub(crate) fn read(bytes: &[u8]) -> Option<Row>
+    // The node of these bytes; none where its value does not fit its kind.
+    pub(crate) fn read(bytes: &[u8; NODE_BYTES]) -> Option<Row>
         ensures { result ≡ row_of bytes.now }
     {
-        let [name, depth, kind, a, b, c, d, ..] = *bytes else {
-            return None;
-        };
+        let [name, depth, kind, a, b, c, d] = *bytes;
         let thousandths = i32::from_le_bytes([a, b, c, d]);
         let value = match kind {
             BRANCH if thousandths == 0 => None,

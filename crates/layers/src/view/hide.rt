@@ -24,7 +24,7 @@ fn kept<R: Record>(heap: Global, below: &R, name: &[u8]) -> Result<Vec<Shown>, A
 {
     let mut shown = Vec::new(heap);
     let mut top = None;
-    // By number, since that is how a record is asked; a chain's closure could neither allocate nor carry `top` on.
+    // A chain with `scan` and `filter_map` would be no plainer, since it hides `top` in the state of a closure.
     for n in 0..below.count() {
         top = hidden_by(below, n, name, top);
         if top.is_none() {
