@@ -1,4 +1,4 @@
--- What the reader says of an item, and of a step.
+-- What the reader says of an item, of a tag, and of the end.
 use Rattle.std.specs.Prelude.{◌≡◌, ℕ, Bool, true, false, ◌&&◌, List, length, Ok, Err, Option as Maybe, Result}
 use Rattle.std.specs.Option.{option_to_list}
 use Rattle.std.proofs.Math.Option.{Option, some, none}

@@ -7,7 +7,7 @@ ghost use Rattle.record_text.specs.Passing.{Compared, Faultless, Verdict};
 ghost use Rattle.record_text.specs.Turns.{outcome};
 
 use crate::entry::Entry;
-use crate::nest::NO_TAG;
+use crate::nest::OpenTag;
 use crate::reader::Reader;
 use records::MOST_LEVELS;
 use refusals::Refusal;
@@ -16,7 +16,7 @@ use refusals::Refusal;
 fn counted(text: &[u8]) -> Result<usize, Refusal>
     ensures { result ≡ outcome (read text.now) }
 {
-    let mut slots = [NO_TAG; MOST_LEVELS];
+    let mut slots = [OpenTag::default(); MOST_LEVELS];
     let mut reader = Reader::over(text, &mut slots);
     while reader.next_node()?.is_some() {}
     Ok(reader.nodes())
@@ -35,7 +35,7 @@ fn put(list: &mut [Entry], node: usize, entry: Entry)
 fn fill(text: &[u8], list: &mut [Entry]) -> Result<(), Refusal>
     ensures { Faultless text.now → list.new ≡ entries text.now list.old }
 {
-    let mut slots = [NO_TAG; MOST_LEVELS];
+    let mut slots = [OpenTag::default(); MOST_LEVELS];
     let mut reader = Reader::over(text, &mut slots);
     while let Some((node, entry)) = reader.next_node()? {
         put(list, node, entry);
@@ -54,7 +54,7 @@ fn has(list: &[Entry], node: usize, entry: Entry) -> bool
 pub(crate) fn compared(text: &[u8], list: &[Entry]) -> Result<Option<usize>, Refusal>
     ensures { Compared text.now list.now result }
 {
-    let mut slots = [NO_TAG; MOST_LEVELS];
+    let mut slots = [OpenTag::default(); MOST_LEVELS];
     let mut reader = Reader::over(text, &mut slots);
     let mut same = true;
     while let Some((node, entry)) = reader.next_node()? {

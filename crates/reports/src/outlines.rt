@@ -6,7 +6,6 @@ ghost use Rattle.reports.specs.Outlines.{Outlined, listing};
 
 use crate::listings::{Listing, report_input};
 use crate::report::{Report, Row};
-use lexical::{after, part};
 use record_text::Entry;
 use refusals::Refusal;
 use std::alloc::{AllocError, Global};
@@ -27,7 +26,7 @@ pub fn refused(heap: Global, refusal: Refusal) -> Result<Vec<u8>, AllocError>
 fn name_of<'a>(text: &'a [u8], node: &Entry) -> &'a [u8]
     ensures { result.now ≡ name_text text.now node.now }
 {
-    part(after(text, node.start), 0, node.name_len)
+    node.name(text)
 }
 
 // Adds the line of a node of the text.
