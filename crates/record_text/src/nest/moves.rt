@@ -144,7 +144,7 @@ impl<'t, 's> Nest<'t, 's> {
     pub(crate) fn end(&self, place: usize) -> Result<(), Refusal>
         ensures { Ended place (shape_of self.now) result }
     {
-        if self.tags.len() != 0 {
+        if self.tags.top().is_some() {
             return Err(Refusal::Misfit(place));
         }
         Ok(())
