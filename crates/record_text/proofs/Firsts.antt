@@ -159,7 +159,7 @@ first_number t n r h e f =
         go true e = refl
         go false e = let a = ltb-false (position_or_len no_figure t) (length t) e in let b = prefix_len-le-length (λ x. not (no_figure x)) t in omega arith
 
--- one step of the cutter
+-- the cutter before an item and after it
 module _ (c c' : Cutter) (x : Placed) (h : Cuts c (Some x) c') where
   abbrev pub cut_item : Item
   cut_item = item_of c.rest.now x.item

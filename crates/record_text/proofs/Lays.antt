@@ -1,5 +1,5 @@
 -- From a pass that compares to the answer of `lay`.
-use Rattle.std.proofs.Common.{◌≡◌, ◌≤◌, ℕ, true, ◌⊎◌, List, length, take, Some, None, Ok, Err, Option, Result, sym, refl, ap, ◌∙◌, subst, arith, length-take}
+use Rattle.std.proofs.Common.{◌≡◌, ◌≤◌, ℕ, true, ◌⊎◌, inl, inr, List, length, take, Some, None, Ok, Err, Option, Result, sym, refl, ap, ◌∙◌, subst, arith, length-take}
 use mathlib.Core.Bool.{false≢true}
 use lib.ListN.{length-map}
 use Rattle.std.proofs.lemmas.List.{take_at, take_all}
@@ -13,10 +13,10 @@ use Rattle.record_text.specs.Reading.{Outcome, accepted, misfit, limit, Answer, 
 use Rattle.record_text.specs.Opening.{Reads}
 use Rattle.record_text.specs.Pass.{accepts, completed, read}
 use Rattle.record_text.specs.Agree.{Agrees}
-use Rattle.record_text.specs.Passing.{Tied}
+use Rattle.record_text.specs.Passing.{Compared, Tied}
 use Rattle.record_text.specs.Turns.{outcome}
 use Rattle.record_text.specs.Texts.{text_node}
-use Rattle.record_text.specs.Laying.{text_of, entries_of, RecordsRead, Differs, Unlaid, misfits, limits, Laid, refusal_of, Settled}
+use Rattle.record_text.specs.Laying.{text_of, entries_of, RecordsRead, Differs, Unlaid, misfits, limits, differs, Laid, refusal_of, Settled}
 use Rattle.record_text.proofs.Read.{read_answers}
 use Rattle.record_text.proofs.Only.{only}
 use Rattle.record_text.proofs.Unique.{one_list}
@@ -56,7 +56,7 @@ module _ (t : List ℕ) (l : List Entry) where
   reads_accepted es r = only t (accepted (length es)) (r.0, es, r.1, r.2, r.3, refl)
 
   module _ (e : Refusal) (h : ◌≡◌ {A = Result ℕ Refusal} (Err e) (outcome (read t))) where
-    pub unlaid : Refused t l e
+    unlaid : Refused t l e
     unlaid = refused_by t l (read t) e (read_answers t) h
 
     no_reading : {X : Type 0} (es : List Entry) → Reads t es → X
@@ -65,7 +65,7 @@ module _ (t : List ℕ) (l : List Entry) where
     told : (o : Outcome) (f : Refusal) → Answer t o → ◌≡◌ {A = Result ℕ Refusal} (outcome o) (Err f) → ◌≡◌ {A = Option Refusal} (Some e) (Some f)
     told o f a g = ap Some (err_same e f (h ∙ (ap outcome (only t o a) ∙ g)))
 
-    pub settled_unlaid : Settled t l (Some e)
+    settled_unlaid : Settled t l (Some e)
     settled_unlaid = (
       λ b. no_reading b.0 b.1,
       λ p a. told (misfit p) (refusal.Misfit p) a refl,
@@ -101,10 +101,10 @@ module _ (t : List ℕ) (l : List Entry) where
 
     -- the list differs from the entries
     module _ (f : n ≤ length l → Agrees (completed t) l → ⊥) where
-      pub differing : Differs t l
+      differing : Differs t l
       differing = let r = reading in (r.0, r.1, λ e. let p = part r.0 r.1 e in f p.0 p.1)
 
-      pub settled_differing : Settled t l (Some refusal.List)
+      settled_differing : Settled t l (Some refusal.List)
       settled_differing = (λ x. let p = part x.0 x.1 x.2 in absurd (f p.0 p.1), λ p a. no_misfit p a, λ p a. no_limit p a, λ x. refl)
 
     -- or begins with them
@@ -134,6 +134,12 @@ module _ (t : List ℕ) (l : List Entry) where
             let k : length x.0 ≡ n = let o : accepted n ≡ accepted (length x.0) = sym (counted (read t) n h) ∙ reads_accepted x.0 x.1 in cc in
             absurd (x.2 (whole m a x.0 x.1 k)),
       )
+
+-- either way, the list is refused
+pub unlaid_by : (t : List ℕ) (l : List Entry) (e : Refusal) → Compared t l (Err e) → Refused t l e × Settled t l (Some e)
+unlaid_by t l e (inl h) = (unlaid t l e (sym h), settled_unlaid t l e (sym h))
+unlaid_by t l e (inr (f, (n, h, d))) =
+    subst (λ x. Refused t l x × Settled t l (Some x)) (sym f) (differs (differing t l n (sym h) d), settled_differing t l n (sym h) d)
 
 -- where the list begins with the entries, the record holds them afterwards
 pub laid_entries : (t : List ℕ) (l : List Entry) (r : Result (Unit {0}) Refusal) (x y : TextRecord) → Laid t l r x y → Settled t l (refusal_of r) → (es : List Entry) → Reads t es →

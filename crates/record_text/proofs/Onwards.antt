@@ -1,4 +1,4 @@
--- One step of the reader, by the item that ended with it, and its end.
+-- What the reader reads on after an item, or where it stops at it: the first of the items that are left, and the next of the cutter.
 use Rattle.std.specs.Prelude.{Some, Ok, Err, Option as Maybe, Result}
 use Rattle.std.specs.Option.{option_to_list}
 use Rattle.std.proofs.Common.{◌≡◌, ℕ, ◌+◌, Bool, true, false, List, ◌∷◌, ◌++◌, length, ap, ◌∙◌, subst}
@@ -45,14 +45,14 @@ module _ (p : ℕ) (s : Shape) (i : Item) (is js : List Item) (e : js ≡ i ∷ 
   pub stops : (f : Refusal) → Went p s i s' (Err f) → outcome (check p s js) ≡ Err f
   stops f w = ap (λ l. outcome (check p s l)) e ∙ ruled_off p after_it (over s i) (move p s i) f w
 
--- one item of the cutter
+-- the next item of the cutter
 module _ (c c' : Cutter) (x : Placed) (h : Cuts c (Some x) c') (s s' : Shape) where
   at_from : (r : Result (Maybe Done) Refusal) → Went x.start s (item_of c.rest.now x.item) s' r → Went (from c) s (item_of c.rest.now x.item) s' r
   at_from r w = subst (λ n. Went n s (item_of c.rest.now x.item) s' r) h.2 w
 
-  pub step_on : (d : Maybe Done) → Went x.start s (item_of c.rest.now x.item) s' (Ok d) →
+  pub taken_on : (d : Maybe Done) → Went x.start s (item_of c.rest.now x.item) s' (Ok d) →
       (check (from c) s (left c) ≡ check (from c') s' (left c')) × (done (from c) s (left c) ≡ option_to_list d ++ done (from c') s' (left c'))
-  step_on d w = goes_on (from c) s (item_of c.rest.now x.item) (left c') (left c) (cut_left c c' x h) (from c') (cut_from c c' x h) s' d (at_from (Ok d) w)
+  taken_on d w = goes_on (from c) s (item_of c.rest.now x.item) (left c') (left c) (cut_left c c' x h) (from c') (cut_from c c' x h) s' d (at_from (Ok d) w)
 
-  pub step_off : (f : Refusal) → Went x.start s (item_of c.rest.now x.item) s' (Err f) → outcome (check (from c) s (left c)) ≡ Err f
-  step_off f w = stops (from c) s (item_of c.rest.now x.item) (left c') (left c) (cut_left c c' x h) (from c') (cut_from c c' x h) s' f (at_from (Err f) w)
+  pub taken_off : (f : Refusal) → Went x.start s (item_of c.rest.now x.item) s' (Err f) → outcome (check (from c) s (left c)) ≡ Err f
+  taken_off f w = stops (from c) s (item_of c.rest.now x.item) (left c') (left c) (cut_left c c' x h) (from c') (cut_from c c' x h) s' f (at_from (Err f) w)

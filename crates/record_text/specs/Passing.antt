@@ -1,7 +1,8 @@
 -- What the code of a pass answers.
-use Rattle.std.specs.Prelude.{◌≡◌, ℕ, ◌≤◌, true, List, length, take, Some, None, Ok, Err, Option as Maybe, Result}
+use Rattle.std.specs.Prelude.{◌≡◌, ℕ, ◌≤◌, ◌⊎◌, true, List, length, take, Ok, Err, Result}
 use Rattle.std.specs.Borrow.{Bor}
 use Rattle.refusals.specs.declared.Refusal.{Refusal}
+use Rattle.refusals.specs.declared.Refusal.TheVariants as refusal
 use Rattle.refusals.specs.Refusals.{number, places}
 use Rattle.records.specs.Limits.{most_nodes}
 use Rattle.records.specs.Nodes.{shaped}
@@ -22,11 +23,14 @@ abbrev pub Verdict : List ℕ → List Entry → Result ℕ Refusal → Type 0
 Verdict t l (Ok n) = Faultless t × ((l' : List Entry) → l' ≡ entries t l → Opened t l (Ok n) l')
 Verdict t l (Err e) = Opened t l (Err e) l
 
--- how many nodes there are, if the list has the entry of each
-abbrev pub Compared : List ℕ → List Entry → Result (Maybe ℕ) Refusal → Type 0
-Compared t l (Ok (Some n)) = (outcome (read t) ≡ Ok n) × (n ≤ length l) × Agrees (completed t) l
-Compared t l (Ok None) = (n : ℕ) × (outcome (read t) ≡ Ok n) × (n ≤ length l → Agrees (completed t) l → ⊥)
-Compared t l (Err e) = outcome (read t) ≡ Err e
+-- an accepted text, and a list that has not the entry of each node
+abbrev pub Unlike : List ℕ → List Entry → Type 0
+Unlike t l = (n : ℕ) × (outcome (read t) ≡ Ok n) × (n ≤ length l → Agrees (completed t) l → ⊥)
+
+-- how many nodes there are, if the list has the entry of each; an item at fault goes before an entry that differs
+abbrev pub Compared : List ℕ → List Entry → Result ℕ Refusal → Type 0
+Compared t l (Ok n) = (outcome (read t) ≡ Ok n) × (n ≤ length l) × Agrees (completed t) l
+Compared t l (Err e) = (outcome (read t) ≡ Err e) ⊎ ((e ≡ refusal.List) × Unlike t l)
 
 -- by equations, as a record keeps it: so many nodes are accepted, and a pass would write these entries
 pub record Tied (t : List ℕ) (es : List Entry) : Type 0 where

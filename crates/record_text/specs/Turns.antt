@@ -1,5 +1,5 @@
--- What the reader says of an item, and of a step.
-use Rattle.std.specs.Prelude.{◌≡◌, ℕ, Bool, true, false, ◌&&◌, List, length, Ok, Err, Option as Maybe, Result}
+-- What the reader says of an item, of a tag, and of the end.
+use Rattle.std.specs.Prelude.{◌≡◌, ℕ, Bool, true, false, ◌&&◌, List, length, Some, None, Ok, Err, Option as Maybe, Result}
 use Rattle.std.specs.Option.{option_to_list}
 use Rattle.std.proofs.Math.Option.{Option, some, none}
 use Rattle.refusals.specs.declared.Refusal.{Refusal}
@@ -25,6 +25,15 @@ ruling p false (some s) = Ok s
 abbrev pub Passed : ℕ → Bool → Option Shape → List Done → Shape → Result (Maybe Done) Refusal → Type 0
 Passed p b o ds s' (Ok d) = (ruling p b o ≡ Ok s') × (ds ≡ option_to_list d)
 Passed p b o ds s' (Err e) = ruling p b o ≡ Err e
+
+-- the answer of what never completes a node, or always one, as that of any item
+abbrev pub no_node : Result (Unit {0}) Refusal → Result (Maybe Done) Refusal
+no_node (Ok u) = Ok None
+no_node (Err e) = Err e
+
+abbrev pub one_node : Result Done Refusal → Result (Maybe Done) Refusal
+one_node (Ok d) = Ok (Some d)
+one_node (Err e) = Err e
 
 -- whether an element may begin at p
 abbrev pub Admitted : ℕ → Shape → Result (Unit {0}) Refusal → Type 0

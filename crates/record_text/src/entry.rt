@@ -1,6 +1,9 @@
 // What a text says of one node.
 ghost use Rattle.std.specs.Prelude.{◌≡◌};
 ghost use Rattle.record_text.specs.Entries.{entry};
+ghost use Rattle.record_text.specs.Texts.{text_node};
+
+use lexical::{after, part};
 
 #[derive(Clone, Copy, Default, PartialEq, Eq)]
 pub struct Entry {
@@ -26,5 +29,11 @@ impl Entry {
             depth,
             value,
         }
+    }
+    // The node's name, as it stands in the text.
+    pub fn name<'t>(&self, text: &'t [u8]) -> &'t [u8]
+        ensures { result.now ≡ (text_node text.now self.now).name }
+    {
+        part(after(text, self.start), 0, self.name_len)
     }
 }

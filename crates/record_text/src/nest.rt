@@ -9,7 +9,7 @@ use crate::entry::Entry;
 use lent::Stack;
 
 // An opening tag whose closing tag is to come: its name, where it stands, and which node it begins.
-#[derive(Clone, Copy)]
+#[derive(Clone, Copy, Default)]
 pub struct OpenTag<'t> {
     pub name: &'t [u8],
     pub place: usize,
@@ -24,6 +24,7 @@ pub enum Held {
     Value(i32),
 }
 
+// What the items before have left open: how many nodes have begun, what the innermost element holds so far, and the open tags.
 #[derive(Drop)]
 pub struct Nest<'t, 's> {
     pub nodes: usize,
@@ -35,10 +36,3 @@ pub struct Nest<'t, 's> {
 
 // A node that is complete: its number and its entry.
 pub type Done = (usize, Entry);
-
-// What a slot for an open tag holds before there is one.
-pub const NO_TAG: OpenTag<'static> = OpenTag {
-    name: &[],
-    place: 0,
-    node: 0,
-};

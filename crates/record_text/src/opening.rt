@@ -1,5 +1,6 @@
-// The passes over a text that `open` and `lay` make.
-ghost use Rattle.std.specs.Prelude.{◌≡◌, Decides, slice_set};
+// The passes over a text that `open` and `lay` make. They are no one function over a closure: after a call, a proof knows nothing of
+// what a closure borrowed and changed; and no function makes the reader with its slots, which must outlive it.
+ghost use Rattle.std.specs.Prelude.{◌≡◌, true, Decides, is_ok, slice_set};
 ghost use Rattle.record_text.specs.Agree.{Has};
 ghost use Rattle.record_text.specs.Opening.{Opened};
 ghost use Rattle.record_text.specs.Pass.{entries, read};
@@ -7,7 +8,7 @@ ghost use Rattle.record_text.specs.Passing.{Compared, Faultless, Verdict};
 ghost use Rattle.record_text.specs.Turns.{outcome};
 
 use crate::entry::Entry;
-use crate::nest::NO_TAG;
+use crate::nest::OpenTag;
 use crate::reader::Reader;
 use records::MOST_LEVELS;
 use refusals::Refusal;
@@ -16,7 +17,7 @@ use refusals::Refusal;
 fn counted(text: &[u8]) -> Result<usize, Refusal>
     ensures { result ≡ outcome (read text.now) }
 {
-    let mut slots = [NO_TAG; MOST_LEVELS];
+    let mut slots = [OpenTag::default(); MOST_LEVELS];
     let mut reader = Reader::over(text, &mut slots);
     while reader.next_node()?.is_some() {}
     Ok(reader.nodes())
@@ -33,9 +34,10 @@ fn put(list: &mut [Entry], node: usize, entry: Entry)
 
 // Writes the entry of each node that lies in the list.
 fn fill(text: &[u8], list: &mut [Entry]) -> Result<(), Refusal>
-    ensures { Faultless text.now → list.new ≡ entries text.now list.old }
+    ensures read { Faultless text.now → is_ok result ≡ true }
+    ensures written { Faultless text.now → list.new ≡ entries text.now list.old }
 {
-    let mut slots = [NO_TAG; MOST_LEVELS];
+    let mut slots = [OpenTag::default(); MOST_LEVELS];
     let mut reader = Reader::over(text, &mut slots);
     while let Some((node, entry)) = reader.next_node()? {
         put(list, node, entry);
@@ -49,19 +51,21 @@ fn has(list: &[Entry], node: usize, entry: Entry) -> bool
     list.get(node) == Some(&entry)
 }
 
-// How many nodes the text has, if the list has the entry of each. It reads on where an entry differs, since an item at fault decides
+// How many nodes the text has; refuses a list that has not the entry of each. It reads on where an entry differs, since an item at fault decides
 // before that.
-pub(crate) fn compared(text: &[u8], list: &[Entry]) -> Result<Option<usize>, Refusal>
+pub(crate) fn compared(text: &[u8], list: &[Entry]) -> Result<usize, Refusal>
     ensures { Compared text.now list.now result }
 {
-    let mut slots = [NO_TAG; MOST_LEVELS];
+    let mut slots = [OpenTag::default(); MOST_LEVELS];
     let mut reader = Reader::over(text, &mut slots);
     let mut same = true;
     while let Some((node, entry)) = reader.next_node()? {
         same = same && has(list, node, entry);
     }
     let nodes = reader.nodes();
-    Ok((same && nodes <= list.len()).then_some(nodes))
+    (same && nodes <= list.len())
+        .then_some(nodes)
+        .ok_or(Refusal::List)
 }
 
 // What `open` answers, before anything is written: the text is counted, and then the room in the list.
@@ -81,6 +85,6 @@ pub fn open(text: &[u8], list: &mut [Entry]) -> Result<usize, Refusal>
     ensures { Opened text.now list.old result list.new }
 {
     let nodes = verdict(text, list)?;
-    let _ = fill(text, list);
+    fill(text, list)?;
     Ok(nodes)
 }

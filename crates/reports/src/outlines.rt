@@ -5,7 +5,6 @@ ghost use Rattle.reports.specs.Outlines.{Outlined, listing};
 
 use crate::listings::{Listing, report_input};
 use crate::report::{Report, Row};
-use lexical::{after, part};
 use record_text::Entry;
 use std::alloc::{AllocError, Global};
 
@@ -13,7 +12,7 @@ use std::alloc::{AllocError, Global};
 fn name_of<'a>(text: &'a [u8], node: &Entry) -> &'a [u8]
     ensures { result.now ≡ name_text text.now node.now }
 {
-    part(after(text, node.start), 0, node.name_len)
+    node.name(text)
 }
 
 // Adds the line of a node of the text.

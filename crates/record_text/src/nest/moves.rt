@@ -2,10 +2,10 @@ ghost use Rattle.std.specs.Prelude.{◌≡◌, ℕ, ◌+◌, List, length};
 ghost use Rattle.lent.specs.Stacks.{held};
 ghost use Rattle.record_text.specs.Cutting.{TagSpans, item_of};
 ghost use Rattle.record_text.specs.Grammar.{bytes, num, tag};
-ghost use Rattle.record_text.specs.Machine.{closes, opens, same, whole};
+ghost use Rattle.record_text.specs.Machine.{closes, opens, whole};
 ghost use Rattle.record_text.specs.Nest.{held_of, shape_of};
 ghost use Rattle.record_text.specs.Pass.{full, start as first, value_in};
-ghost use Rattle.record_text.specs.Turns.{Admitted, Ended, Went, WentTag};
+ghost use Rattle.record_text.specs.Turns.{Admitted, Ended, Went, WentTag, no_node, one_node};
 
 use super::{Done, Held, Nest, OpenTag};
 use crate::entry::Entry;
@@ -16,20 +16,15 @@ use lexical::number;
 use records::{MOST_LEVELS, MOST_NODES};
 use refusals::Refusal;
 
-// Whether the open tag has the name.
-fn is_named(tag: OpenTag<'_>, name: &[u8]) -> bool
-    ensures { result ≡ same name.now tag.entry.name.now }
-{
-    name == tag.name
-}
-
-// The value of an element that holds this.
-fn value_of(held: Held) -> Option<i32>
-    ensures { result ≡ value_in (held_of held) }
-{
-    match held {
-        Held::Value(value) => Some(value),
-        Held::Blanks | Held::Elements => None,
+impl Held {
+    // The value of an element that holds this.
+    fn value(self) -> Option<i32>
+        ensures { result ≡ value_in (held_of self) }
+    {
+        match self {
+            Held::Value(value) => Some(value),
+            Held::Blanks | Held::Elements => None,
+        }
     }
 }
 
@@ -66,33 +61,33 @@ impl<'t, 's> Nest<'t, 's> {
     }
 
     // A number item, which began at `place`.
-    fn number(&mut self, digits: &[u8], place: usize) -> Result<Option<Done>, Refusal>
-        ensures { Went place (shape_of self.old) (num digits.now) (shape_of self.new) result }
+    fn number(&mut self, digits: &[u8], place: usize) -> Result<(), Refusal>
+        ensures { Went place (shape_of self.old) (num digits.now) (shape_of self.new) (no_node result) }
     {
         match (self.held, number(digits)) {
             (Held::Blanks, Some(value)) => {
                 self.held = Held::Value(value);
-                Ok(None)
+                Ok(())
             }
             _ => Err(Refusal::Misfit(place)),
         }
     }
 
     // An opening tag.
-    fn begin(&mut self, name: &'t [u8], place: usize) -> Result<Option<Done>, Refusal>
-        ensures { (q : ℕ) → WentTag place q (shape_of self.old) (opens name.now) (shape_of self.new) result }
+    fn begin(&mut self, name: &'t [u8], place: usize) -> Result<(), Refusal>
+        ensures { (q : ℕ) → WentTag place q (shape_of self.old) (opens name.now) (shape_of self.new) (no_node result) }
     {
         self.admit(place)?;
         let node = self.nodes;
         let _ = self.tags.push(OpenTag { name, place, node });
         self.nodes = node + 1;
         self.held = Held::Blanks;
-        Ok(None)
+        Ok(())
     }
 
     // An empty tag.
-    fn hollow(&mut self, name: &[u8], at: Placed<'t>) -> Result<Option<Done>, Refusal>
-        ensures { WentTag at.entry.start at.entry.end (shape_of self.old) (whole name.now) (shape_of self.new) result }
+    fn hollow(&mut self, name: &[u8], at: Placed<'t>) -> Result<Done, Refusal>
+        ensures { WentTag at.entry.start at.entry.end (shape_of self.old) (whole name.now) (shape_of self.new) (one_node result) }
     {
         self.admit(at.start)?;
         let node = self.nodes;
@@ -100,22 +95,22 @@ impl<'t, 's> Nest<'t, 's> {
         self.held = Held::Elements;
         let depth = self.tags.len();
         let entry = Entry::new(at.start, at.end, name.len(), depth, None);
-        Ok(Some((node, entry)))
+        Ok((node, entry))
     }
 
     // A closing tag.
-    fn close(&mut self, name: &[u8], at: Placed<'t>) -> Result<Option<Done>, Refusal>
-        ensures { WentTag at.entry.start at.entry.end (shape_of self.old) (closes name.now) (shape_of self.new) result }
+    fn close(&mut self, name: &[u8], at: Placed<'t>) -> Result<Done, Refusal>
+        ensures { WentTag at.entry.start at.entry.end (shape_of self.old) (closes name.now) (shape_of self.new) (one_node result) }
     {
         let tag = self.tags.pop().ok_or(Refusal::Misfit(at.start))?;
-        if !is_named(tag, name) {
+        if name != tag.name {
             return Err(Refusal::Misfit(at.start));
         }
-        let value = value_of(self.held);
+        let value = self.held.value();
         self.held = Held::Elements;
         let depth = self.tags.len();
         let entry = Entry::new(tag.place, at.end, name.len(), depth, value);
-        Ok(Some((tag.node, entry)))
+        Ok((tag.node, entry))
     }
 
     // A tag by its body.
@@ -124,9 +119,9 @@ impl<'t, 's> Nest<'t, 's> {
         ensures { Went at.entry.start (shape_of self.old) (tag body.now) (shape_of self.new) result }
     {
         match tag_of(body) {
-            Some(Tag::Opening(name)) => self.begin(name, at.start),
-            Some(Tag::Closing(name)) => self.close(name, at),
-            Some(Tag::Alone(name)) => self.hollow(name, at),
+            Some(Tag::Opening(name)) => self.begin(name, at.start).map(|()| None),
+            Some(Tag::Closing(name)) => self.close(name, at).map(Some),
+            Some(Tag::Alone(name)) => self.hollow(name, at).map(Some),
             None => Err(Refusal::Misfit(at.start)),
         }
     }
@@ -140,7 +135,7 @@ impl<'t, 's> Nest<'t, 's> {
         match piece.item {
             Item::Gap => Ok(None),
             Item::Tag(body) => self.tag(body, piece),
-            Item::Number(digits) => self.number(digits, start),
+            Item::Number(digits) => self.number(digits, start).map(|()| None),
             Item::Stray | Item::Lone => Err(Refusal::Misfit(start)),
         }
     }
@@ -149,7 +144,7 @@ impl<'t, 's> Nest<'t, 's> {
     pub(crate) fn end(&self, place: usize) -> Result<(), Refusal>
         ensures { Ended place (shape_of self.now) result }
     {
-        if self.tags.len() > 0 {
+        if self.tags.top().is_some() {
             return Err(Refusal::Misfit(place));
         }
         Ok(())

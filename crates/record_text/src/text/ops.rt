@@ -14,9 +14,7 @@ fn agreed<'n>(text: &[u8], list: &'n [Entry]) -> Result<&'n [Entry], Refusal>
     ensures agreed { Agreed text.now list.now result }
     ensures settled { Settled text.now list.now (refusal_of result) }
 {
-    let Some(nodes) = compared(text, list)? else {
-        return Err(Refusal::List);
-    };
+    let nodes = compared(text, list)?;
     Ok(&list[..nodes])
 }
 

@@ -1,21 +1,11 @@
 // The questions of records, put to a text.
-ghost use Rattle.std.specs.Prelude.{◌≡◌, length, slice_index, slice_index_or};
+ghost use Rattle.std.specs.Prelude.{◌≡◌, length};
 ghost use Rattle.record_text.specs.Laying.{entries_of, text_of};
-ghost use Rattle.record_text.specs.Texts.{text_level, text_node, text_nodes, text_places, text_shape};
-ghost use Rattle.records.specs.Nodes.{no_node};
-ghost use Rattle.std.specs.Str.{bytes_eq};
+ghost use Rattle.record_text.specs.Texts.{Found, text_level, text_node, text_nodes, text_places, text_shape};
 
 use super::TextRecord;
 use crate::entry::Entry;
-use lexical::{after, part};
 use records::Record;
-
-// Whether the entry tells the name.
-fn tells_name(text: &[u8], entry: Entry, name: &[u8]) -> bool
-    ensures { result ≡ bytes_eq (text_node text.now entry).name name.now }
-{
-    part(after(text, entry.start), 0, entry.name_len) == name
-}
 
 impl<'t, 'n> TextRecord<'t, 'n> {
     // How many nodes there are.
@@ -25,12 +15,11 @@ impl<'t, 'n> TextRecord<'t, 'n> {
         self.nodes.len()
     }
 
-    // The entry of node n, or one that is all zero where there is none.
-    fn entry(&self, n: usize) -> Entry
-        ensures node { text_node (text_of self.now) result ≡ slice_index_or (text_nodes (text_of self.now) (entries_of self.now)) n no_node }
-        ensures place { result.start ≡ slice_index (text_places (entries_of self.now)) n }
+    // The entry of node n, if there is one.
+    fn entry(&self, n: usize) -> Option<Entry>
+        ensures { Found (text_of self.now) (entries_of self.now) n result }
     {
-        self.nodes.get(n).copied().unwrap_or_default()
+        self.nodes.get(n).copied()
     }
 }
 
@@ -48,18 +37,19 @@ impl<'t, 'n> Record for TextRecord<'t, 'n> {
     }
 
     fn depth(&self, n: usize) -> usize {
-        self.entry(n).depth
+        self.entry(n).map_or(0, |entry| entry.depth)
     }
 
     fn value(&self, n: usize) -> Option<i32> {
-        self.entry(n).value
+        self.entry(n)?.value
     }
 
     fn place(&self, n: usize) -> usize {
-        self.entry(n).start
+        self.entry(n).map_or(0, |entry| entry.start)
     }
 
     fn is_named(&self, n: usize, name: &[u8]) -> bool {
-        n < self.len() && tells_name(self.text, self.entry(n), name)
+        self.entry(n)
+            .is_some_and(|entry| entry.name(self.text) == name)
     }
 }

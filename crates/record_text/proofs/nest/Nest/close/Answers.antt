@@ -1,23 +1,26 @@
 use Rattle.std.proofs.Common.{◌≡◌, true, false, [], ◌∷◌, ◌++◌, ap, length, ◌∙◌, rules}
 use Rattle.lent.specs.Stacks.{held}
 use Rattle.record_text.specs.Entries.{entry}
+use Rattle.record_text.specs.Machine.{same}
 use Rattle.record_text.specs.Nest.{held_of}
 use Rattle.record_text.specs.Turns.{ruling}
 use Rattle.record_text.proofs.Nests.{close_tag, close_done}
 use Rattle.record_text.proofs.nest.Nest.close.Goals as goal
 
-pub returns-then-not-is_named : goal.returns-then-not-is_named
-returns-then-not-is_named c =
+pub returns-then-ne : goal.returns-then-ne
+returns-then-ne c =
     let s = c.args.self.now in
     let e : held s.tags ≡ held c.pop.new.self ++ c.in_ok-tag.tag ∷ [] = search rules in
-    ap (ruling c.args.at.start false) (close_tag c.args.name.now s.nodes (held s.tags) _ c.in_ok-tag.tag e false c.if-not-is_named.ensures)
+    let k : false ≡ same c.args.name.now c.in_ok-tag.tag.name.now = search rules in
+    ap (ruling c.args.at.start false) (close_tag c.args.name.now s.nodes (held s.tags) _ c.in_ok-tag.tag e false k)
 
 pub returns : goal.returns
 returns c =
     let w = c.args.name.now in
     let s = c.args.self.now in
-    let e : held s.tags ≡ held c.pop.new.self ++ c.in_ok-tag.tag ∷ [] = search rules in (
-      ap (ruling c.args.at.start false) (close_tag w s.nodes (held s.tags) _ c.in_ok-tag.tag e true c.if-not-is_named.ensures),
+    let e : held s.tags ≡ held c.pop.new.self ++ c.in_ok-tag.tag ∷ [] = search rules in
+    let k : true ≡ same w c.in_ok-tag.tag.name.now = search rules in (
+      ap (ruling c.args.at.start false) (close_tag w s.nodes (held s.tags) _ c.in_ok-tag.tag e true k),
       close_done w s.nodes (held s.tags) _ c.in_ok-tag.tag e c.args.at.end (held_of s.held) c.len-depth.result c.new-entry.result c.len-depth.ensures
-          (c.new-entry.ensures ∙ ap (entry c.in_ok-tag.tag.place c.args.at.end (length w) c.len-depth.result) c.value_of-value.ensures),
+          (c.new-entry.ensures ∙ ap (entry c.in_ok-tag.tag.place c.args.at.end (length w) c.len-depth.result) c.value-value.ensures),
     )
