@@ -11,7 +11,7 @@ use std::alloc::{AllocError, Global};
 pub const MOST_OCCURRENCES: u16 = 256;
 
 // Why a content is not marked: there would be more than `MOST_OCCURRENCES`, or memory is wanting.
-#[derive(Clone, Copy)]
+#[derive(Clone, Copy, Debug, PartialEq, Eq)]
 pub enum Unmarked {
     TooMany,
     NoMemory,
@@ -27,7 +27,8 @@ impl From<AllocError> for Unmarked {
 }
 
 impl<V> Expression<V> {
-    // The expression with its items numbered from `next` on, which is then the number after the last.
+    // This expression with a number in place of each item, from left to right: the first gets `next`, each other the number after the one
+    // before it. Afterwards `next` is the first number that no item got.
     fn numbered(&self, heap: Global, next: &mut u16) -> Result<Expression<u16>, Unmarked>
         requires { next.old ≤ most_occurrences }
         ensures { Numbers self.now next.old result next.new }

@@ -9,12 +9,12 @@ use Rattle.pieces.specs.Pieces.{Piece, word, number, sign, unfit, open_round, cl
 use Rattle.pieces.specs.Tokens.{pieces_of}
 use Rattle.form_grammar.specs.Grammar.{Written, Part, a_choice, an_item, an_atom}
 use Rattle.form_grammar.specs.Parser.{Got, parse, past, first_word, joined, repeated, closed, bracketed, ◌>>=◌}
-use Rattle.form_text.specs.declared.errors.StartError.{StartError}
-use Rattle.form_text.specs.declared.errors.StartError.TheVariants.{NotOfForm, NoMemory}
+use Rattle.form_text.specs.declared.errors.Unread.{Unread}
+use Rattle.form_text.specs.declared.errors.Unread.TheVariants.{NotOfForm, NoMemory}
 use Rattle.form_text.specs.Reads.{IfRead, written, read_as, Parses, rank}
 
 -- an error that is handed on says of a larger part what it said of its first
-pub handed_on : {X Y : Type 0} (P : Maybe X → Type 0) (Q : Maybe Y → Type 0) (r : Result Y StartError) (e : StartError) → IsErrAnd r (λ f. f ≡ e)
+pub handed_on : {X Y : Type 0} (P : Maybe X → Type 0) (Q : Maybe Y → Type 0) (r : Result Y Unread) (e : Unread) → IsErrAnd r (λ f. f ≡ e)
     → (P None → Q None) → IfRead (Err e) P → IfRead r Q
 handed_on P Q (Ok y) e h k p = absurd h
 handed_on P Q (Err NotOfForm) NotOfForm h k p = k p

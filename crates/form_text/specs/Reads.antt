@@ -14,7 +14,9 @@ use Rattle.form_grammar.specs.Parser.{parse}
 use Rattle.form_text.specs.declared.errors.RuleError.{RuleError}
 use Rattle.form_text.specs.declared.errors.RuleError.TheVariants as rule
 use Rattle.form_text.specs.declared.errors.StartError.{StartError}
-use Rattle.form_text.specs.declared.errors.StartError.TheVariants.{NotOfForm, NoMemory}
+use Rattle.form_text.specs.declared.errors.StartError.TheVariants as start
+use Rattle.form_text.specs.declared.errors.Unread.{Unread}
+use Rattle.form_text.specs.declared.errors.Unread.TheVariants.{NotOfForm, NoMemory}
 use Rattle.form_text.specs.declared.rule.Body.{Body as CodeBody}
 use Rattle.form_text.specs.declared.rule.Body.TheVariants.{Branch, Leaf}
 use Rattle.form_text.specs.declared.rule.Rule.{Rule as CodeRule}
@@ -34,7 +36,7 @@ read_as f None = None
 read_as f (Some r) = Some (f r.0, pieces_of r.1.now)
 
 -- an answer that a reader gave: what it read, or nothing where the tokens are not of the form; where memory is wanting nothing is said
-abbrev pub IfRead : {X : Type 0} → Result X StartError → (Maybe X → Type 0) → Type 0
+abbrev pub IfRead : {X : Type 0} → Result X Unread → (Maybe X → Type 0) → Type 0
 IfRead (Ok x) P = P (Some x)
 IfRead (Err NotOfForm) P = P None
 IfRead (Err NoMemory) P = Unit {0}
@@ -73,6 +75,11 @@ start_read None = None
 start_read (Some e) = Some (written e)
 
 -- what reading a rule answers where one of its parts is not read
-abbrev pub as_rule_error : StartError → RuleError
+abbrev pub as_rule_error : Unread → RuleError
 as_rule_error NotOfForm = rule.NotOfForm
 as_rule_error NoMemory = rule.NoMemory
+
+-- and what reading a start answers there
+abbrev pub as_start_error : Unread → StartError
+as_start_error NotOfForm = start.NotOfForm
+as_start_error NoMemory = start.NoMemory

@@ -6,7 +6,7 @@ ghost use Rattle.form_grammar.specs.Grammar.{a_choice, a_sequence, an_atom, an_i
 ghost use Rattle.form_grammar.specs.Parser.{begins, content, past};
 ghost use Rattle.form_text.specs.Reads.{IfRead, Parses, left, read_as, written};
 
-use crate::errors::StartError;
+use crate::errors::Unread;
 use contents::Expression;
 use lexical::Word;
 use pieces::{Sign, Token};
@@ -14,6 +14,10 @@ use std::alloc::Global;
 
 // The most brackets inside one another.
 const DEEPEST: usize = 16;
+
+// What was read, and the tokens behind it. (No parser that holds them and has these functions as methods: each contract would have to
+// speak of its tokens before and after, and of what is left of them where a part is not read.)
+pub(crate) type Parsed<'t> = Result<(Expression<Word>, &'t [Token]), Unread>;
 
 // The tokens behind a sign, if it stands first.
 fn past(tokens: &[Token], sign: Sign) -> Option<&[Token]>
@@ -28,11 +32,7 @@ fn past(tokens: &[Token], sign: Sign) -> Option<&[Token]>
 
 // One sequence or more, joined by `|`.
 #[cycle(atom_choice_item_sequence)]
-fn choice(
-    heap: Global,
-    tokens: &[Token],
-    depth: usize,
-) -> Result<(Expression<Word>, &[Token]), StartError>
+fn choice(heap: Global, tokens: &[Token], depth: usize) -> Parsed<'_>
     ensures { IfRead result (λ o. Parses a_choice depth tokens.now o) }
 {
     let (first, behind) = sequence(heap, tokens, depth)?;
@@ -46,11 +46,7 @@ fn choice(
 // One item or more, joined by `,`. (`choice` with another part, sign and join: one function for both would take these three as closures,
 // and its contract would have to repeat what each of them promises.)
 #[cycle(atom_choice_item_sequence)]
-fn sequence(
-    heap: Global,
-    tokens: &[Token],
-    depth: usize,
-) -> Result<(Expression<Word>, &[Token]), StartError>
+fn sequence(heap: Global, tokens: &[Token], depth: usize) -> Parsed<'_>
     ensures { IfRead result (λ o. Parses a_sequence depth tokens.now o) }
 {
     let (first, behind) = item(heap, tokens, depth)?;
@@ -63,11 +59,7 @@ fn sequence(
 
 // An atom, and at most one of `*`, `+`, `?` behind it.
 #[cycle(atom_choice_item_sequence)]
-fn item(
-    heap: Global,
-    tokens: &[Token],
-    depth: usize,
-) -> Result<(Expression<Word>, &[Token]), StartError>
+fn item(heap: Global, tokens: &[Token], depth: usize) -> Parsed<'_>
     ensures { IfRead result (λ o. Parses an_item depth tokens.now o) }
 {
     let (atom, behind) = atom(heap, tokens, depth)?;
@@ -85,25 +77,21 @@ fn item(
 
 // A variable, or a choice in brackets, which may stand inside one another as deep as `depth` says.
 #[cycle(atom_choice_item_sequence)]
-fn atom(
-    heap: Global,
-    tokens: &[Token],
-    depth: usize,
-) -> Result<(Expression<Word>, &[Token]), StartError>
+fn atom(heap: Global, tokens: &[Token], depth: usize) -> Parsed<'_>
     ensures { IfRead result (λ o. Parses an_atom depth tokens.now o) }
 {
     if let [Token::Word(variable), behind @ ..] = tokens {
         return Ok((Expression::Item(*variable), behind));
     }
     let Some(inside) = past(tokens, Sign::OpenRound) else {
-        return Err(StartError::NotOfForm);
+        return Err(Unread::NotOfForm);
     };
     if depth == 0 {
-        return Err(StartError::NotOfForm);
+        return Err(Unread::NotOfForm);
     }
     let (inner, behind) = choice(heap, inside, depth - 1)?;
     let Some(end) = past(behind, Sign::CloseRound) else {
-        return Err(StartError::NotOfForm);
+        return Err(Unread::NotOfForm);
     };
     Ok((inner, end))
 }
@@ -116,10 +104,7 @@ fn begins(tokens: &[Token]) -> bool
 }
 
 // A content: nothing, or a choice.
-pub(crate) fn content(
-    heap: Global,
-    tokens: &[Token],
-) -> Result<(Expression<Word>, &[Token]), StartError>
+pub(crate) fn content(heap: Global, tokens: &[Token]) -> Parsed<'_>
     ensures { IfRead result (λ o. read_as written o ≡ content (pieces_of tokens.now)) }
 {
     if !begins(tokens) {

@@ -2,11 +2,13 @@
 ghost use Rattle.std.specs.Prelude.{◌≡◌};
 ghost use Rattle.form_text.specs.declared.errors.RuleError.TheVariants as rule;
 ghost use Rattle.form_text.specs.declared.errors.StartError.TheVariants as start;
+ghost use Rattle.form_text.specs.declared.errors.Unread.TheVariants as unread;
+ghost use Rattle.form_text.specs.Reads.{as_rule_error, as_start_error};
 
 use std::alloc::AllocError;
 
 // Two types, since a start has no values: read with `RuleError`, it would be said that it may answer `LowAboveHigh`.
-#[derive(Clone, Copy)]
+#[derive(Clone, Copy, Debug, PartialEq, Eq)]
 pub enum RuleError {
     // not of the form of a rule text
     NotOfForm,
@@ -15,14 +17,22 @@ pub enum RuleError {
     NoMemory,
 }
 
-#[derive(Clone, Copy)]
+#[derive(Clone, Copy, Debug, PartialEq, Eq)]
 pub enum StartError {
     // not of the form of a start text
     NotOfForm,
     NoMemory,
 }
 
-// (By hand, these three, since their contracts say which error they make; derived ones have none.)
+// Why the tokens of a part, of a rule or of a start, are not read.
+#[derive(Clone, Copy)]
+pub(crate) enum Unread {
+    // not of the form of the part
+    NotOfForm,
+    NoMemory,
+}
+
+// (By hand, these five, since their contracts say which error they make; derived ones have none.)
 impl From<AllocError> for RuleError {
     ghost from_gives = { λ _ r. r ≡ rule.NoMemory };
 
@@ -39,16 +49,32 @@ impl From<AllocError> for StartError {
     }
 }
 
-// The readers of parts answer a `StartError`, of rules too.
-impl From<StartError> for RuleError {
-    ghost use Rattle.form_text.specs.Reads.{as_rule_error};
+impl From<AllocError> for Unread {
+    ghost from_gives = { λ _ r. r ≡ unread.NoMemory };
 
+    fn from(_error: AllocError) -> Unread {
+        Unread::NoMemory
+    }
+}
+
+impl From<Unread> for RuleError {
     ghost from_gives = { λ e r. r ≡ as_rule_error e };
 
-    fn from(error: StartError) -> RuleError {
+    fn from(error: Unread) -> RuleError {
         match error {
-            StartError::NotOfForm => RuleError::NotOfForm,
-            StartError::NoMemory => RuleError::NoMemory,
+            Unread::NotOfForm => RuleError::NotOfForm,
+            Unread::NoMemory => RuleError::NoMemory,
+        }
+    }
+}
+
+impl From<Unread> for StartError {
+    ghost from_gives = { λ e r. r ≡ as_start_error e };
+
+    fn from(error: Unread) -> StartError {
+        match error {
+            Unread::NotOfForm => StartError::NotOfForm,
+            Unread::NoMemory => StartError::NoMemory,
         }
     }
 }

@@ -3,7 +3,7 @@
 
 mod content;
 mod errors;
-mod pieces_read;
+mod parts;
 mod rule;
 mod texts;
 

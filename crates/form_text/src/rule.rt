@@ -1,4 +1,7 @@
 // Rules and starts, as they were read.
+ghost use Rattle.form_text.specs.Answers.{TellsOrder};
+ghost use Rattle.form_text.specs.Reads.{body_said};
+
 use contents::Expression;
 use lexical::Word;
 
@@ -8,6 +11,18 @@ use lexical::Word;
 pub enum Body {
     Branch(Expression<Word>),
     Leaf { low: i32, high: i32 },
+}
+
+impl Body {
+    // Whether a leaf rule's low value is above its high value.
+    pub(crate) fn low_above_high(&self) -> bool
+        ensures { TellsOrder result (body_said self.now) }
+    {
+        match self {
+            Body::Branch(_) => false,
+            Body::Leaf { low, high } => *low > *high,
+        }
+    }
 }
 
 #[derive(Drop)]

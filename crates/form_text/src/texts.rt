@@ -1,14 +1,14 @@
 // Reads rule texts and start texts.
 ghost use Rattle.std.specs.Prelude.{◌≡◌, ◌<◌, ◌≤◌, length, MatchOption};
 ghost use Rattle.form_grammar.specs.Grammar.{longest};
-ghost use Rattle.form_text.specs.Answers.{ReadsRule, ReadsStart, TellsOrder};
-ghost use Rattle.form_text.specs.Reads.{IfRead, body_said};
+ghost use Rattle.form_text.specs.Answers.{ReadsRule, ReadsStart};
+ghost use Rattle.form_text.specs.Reads.{IfRead};
 ghost use Rattle.pieces.specs.Cutting.{pieces};
 ghost use Rattle.pieces.specs.Tokens.{pieces_of};
 
-use crate::errors::{RuleError, StartError};
-use crate::pieces_read::{rule_of, start_of};
-use crate::rule::{Body, Rule};
+use crate::errors::{RuleError, StartError, Unread};
+use crate::parts::{rule_of, start_of};
+use crate::rule::Rule;
 use contents::Expression;
 use lexical::Word;
 use pieces::{Token, cut};
@@ -18,25 +18,13 @@ use std::alloc::Global;
 pub const LONGEST_TEXT: usize = 512;
 
 // The tokens of a text, unless it is too long.
-fn tokens_of(heap: Global, text: &[u8]) -> Result<Vec<Token>, StartError>
+fn tokens_of(heap: Global, text: &[u8]) -> Result<Vec<Token>, Unread>
     ensures { IfRead result (λ o. MatchOption o (longest < length text.now) (λ v. (length text.now ≤ longest) × (pieces_of v.items ≡ pieces text.now))) }
 {
     if text.len() > LONGEST_TEXT {
-        return Err(StartError::NotOfForm);
+        return Err(Unread::NotOfForm);
     }
     Ok(cut(heap, text)?)
-}
-
-impl Body {
-    // Whether a leaf rule's low value is above its high value.
-    fn low_above_high(&self) -> bool
-        ensures { TellsOrder result (body_said self.now) }
-    {
-        match self {
-            Body::Branch(_) => false,
-            Body::Leaf { low, high } => *low > *high,
-        }
-    }
 }
 
 // The rule that a rule text says.
@@ -53,10 +41,10 @@ pub fn read_rule(heap: Global, text: &[u8]) -> Result<Rule, RuleError>
 }
 
 // The content that a start text says.
-#[tactic(auto, using(crate::proofs::Finding::start_answer))]
+#[tactic(auto, using(crate::proofs::Finding::said_start))]
 pub fn read_start(heap: Global, text: &[u8]) -> Result<Expression<Word>, StartError>
     ensures { ReadsStart text.now result }
 {
     let tokens = tokens_of(heap, text)?;
-    start_of(heap, &tokens)
+    Ok(start_of(heap, &tokens)?)
 }

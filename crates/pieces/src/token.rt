@@ -30,6 +30,8 @@ pub enum Token {
     Sign(Sign),
 }
 
+// (No `TryFrom<u8>` and no `From<Sign> for u8`: an error type would say no more than `None`, and `byte` has the name of the definition that
+// contracts use.)
 impl Sign {
     // The sign that a byte is.
     pub(crate) fn from_byte(b: u8) -> Option<Sign>

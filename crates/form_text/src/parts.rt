@@ -5,7 +5,7 @@ ghost use Rattle.form_text.specs.Reads.{IfRead, body_read, rule_read, start_read
 ghost use Rattle.pieces.specs.Tokens.{pieces_of};
 
 use crate::content::content;
-use crate::errors::StartError;
+use crate::errors::Unread;
 use crate::rule::{Body, Rule};
 use contents::Expression;
 use lexical::Word;
@@ -13,18 +13,18 @@ use pieces::{Sign, Token};
 use std::alloc::Global;
 
 // A content and the bracket that closes it, with nothing behind it.
-fn branch(heap: Global, tokens: &[Token]) -> Result<Body, StartError>
+fn branch(heap: Global, tokens: &[Token]) -> Result<Body, Unread>
     ensures { IfRead result (λ o. body_read o ≡ branch_of (pieces_of tokens.now)) }
 {
     let (content, behind) = content(heap, tokens)?;
     let [Token::Sign(Sign::CloseRound)] = behind else {
-        return Err(StartError::NotOfForm);
+        return Err(Unread::NotOfForm);
     };
     Ok(Body::Branch(content))
 }
 
 // What stands behind a rule's name: a content in round brackets, or two numbers in square ones.
-fn body(heap: Global, tokens: &[Token]) -> Result<Body, StartError>
+fn body(heap: Global, tokens: &[Token]) -> Result<Body, Unread>
     ensures { IfRead result (λ o. body_read o ≡ body_of (pieces_of tokens.now)) }
 {
     match tokens {
@@ -39,12 +39,12 @@ fn body(heap: Global, tokens: &[Token]) -> Result<Body, StartError>
             low: *low,
             high: *high,
         }),
-        _ => Err(StartError::NotOfForm),
+        _ => Err(Unread::NotOfForm),
     }
 }
 
 // The rule that the tokens are.
-pub(crate) fn rule_of(heap: Global, tokens: &[Token]) -> Result<Rule, StartError>
+pub(crate) fn rule_of(heap: Global, tokens: &[Token]) -> Result<Rule, Unread>
     ensures { IfRead result (λ o. rule_read o ≡ rule_of_pieces (pieces_of tokens.now)) }
 {
     let [
@@ -54,7 +54,7 @@ pub(crate) fn rule_of(heap: Global, tokens: &[Token]) -> Result<Rule, StartError
         behind @ ..,
     ] = tokens
     else {
-        return Err(StartError::NotOfForm);
+        return Err(Unread::NotOfForm);
     };
     let body = body(heap, behind)?;
     Ok(Rule {
@@ -65,11 +65,11 @@ pub(crate) fn rule_of(heap: Global, tokens: &[Token]) -> Result<Rule, StartError
 }
 
 // The content that the tokens are.
-pub(crate) fn start_of(heap: Global, tokens: &[Token]) -> Result<Expression<Word>, StartError>
+pub(crate) fn start_of(heap: Global, tokens: &[Token]) -> Result<Expression<Word>, Unread>
     ensures { IfRead result (λ o. start_read o ≡ content_of (pieces_of tokens.now)) }
 {
     let (content, []) = content(heap, tokens)? else {
-        return Err(StartError::NotOfForm);
+        return Err(Unread::NotOfForm);
     };
     Ok(content)
 }
