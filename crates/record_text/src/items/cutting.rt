@@ -22,8 +22,8 @@ impl<'t> Cutter<'t> {
         self.len - self.rest.len()
     }
 
-    // The next item, unless the text is at its end. (No `Iterator`: the reader takes an item at a time and comes back for the rest, so
-    // no `for` would stand over it.)
+    // The next item, unless the text is at its end. (An `Iterator`, and `for piece in self.cutter.by_ref()` in the reader: tried, the
+    // impl is proved, but the loop's proof did not close, since after it the cutter is known by the reference's ghost name alone.)
     pub(crate) fn next_item(&mut self) -> Option<Placed<'t>>
         ensures { Cuts self.old result self.new }
     {
