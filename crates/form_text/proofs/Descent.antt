@@ -5,7 +5,7 @@ use Rattle.std.specs.Result.{IsErrAnd}
 use Rattle.lexical.specs.declared.spelled.Word.{Word}
 use Rattle.contents.specs.declared.expression.Expression.{Expression}
 use Rattle.pieces.specs.declared.token.Token.{Token}
-use Rattle.pieces.specs.Pieces.{Piece, word, number, sign, unfit, open_round, close_round}
+use Rattle.pieces.specs.Pieces.{Piece, word, number, sign, unfit, asterisk, cross, question, open_round, close_round}
 use Rattle.pieces.specs.Tokens.{pieces_of}
 use Rattle.form_grammar.specs.Grammar.{Written, Part, a_choice, an_item, an_atom}
 use Rattle.form_grammar.specs.Parser.{Got, parse, past, first_word, joined, repeated, closed, bracketed, ◌>>=◌}
@@ -68,26 +68,47 @@ no_word b (sign c ∷ s) e = refl
 no_word b (unfit ∷ s) e = refl
 
 -- Atoms in brackets: what stands inside is a choice, where brackets may stand one less deep.
-module _ {d : ℕ} (ts : List Token) (s : Bor (List Token)) (f : Some (pieces_of s.now) ≡ past open_round (pieces_of ts)) (l : length s.now < length ts) (z : d ≡ 0 → ⊥) where
-  inside : {o : Found} → Parses a_choice (d - 1) s.now o → (n : ℕ) → 4 * length ts + 1 ≤ n → parse n an_atom d (pieces_of ts) ≡ (read_as written o >>= closed)
+module _ {d : ℕ} (ts s : List Token) (f : Some (pieces_of s) ≡ past open_round (pieces_of ts)) (l : length s < length ts) (z : 0 < d) where
+  inside : {o : Found} → Parses a_choice (d - 1) s o → (n : ℕ) → 4 * length ts + 1 ≤ n → parse n an_atom d (pieces_of ts) ≡ (read_as written o >>= closed)
   inside p zero h = absurd (omega arith)
   inside p (suc m) h =
       let deep : d ≡ suc (d - 1) = omega arith in
       rw (← no_word open_round (pieces_of ts) f)
-      (rw (← f) (ap (λ k. bracketed (λ c t. parse m a_choice c t) k (pieces_of s.now)) deep ∙ ap (λ o. o >>= closed) (sym (p.value m (omega arith)))))
+      (rw (← f) (ap (λ k. bracketed (λ c t. parse m a_choice c t) k (pieces_of s)) deep ∙ ap (λ o. o >>= closed) (sym (p.value m (omega arith)))))
 
-  pub atom_lost : Parses a_choice (d - 1) s.now None → Parses an_atom d ts None
-  atom_lost p = record { value = λ n h. sym (inside p n h); onward = tt }
+  atom_none : Parses a_choice (d - 1) s None → Parses an_atom d ts None
+  atom_none p = record { value = λ n h. sym (inside p n h); onward = tt }
 
-  module _ {x : Expression Word} {t : Bor (List Token)} (p : Parses a_choice (d - 1) s.now (Some (x, t))) where
-    pub atom_unclosed : None ≡ past close_round (pieces_of t.now) → Parses an_atom d ts None
-    atom_unclosed g = record { value = λ n h. sym (inside p n h ∙ rw (← g) refl); onward = tt }
+  pub atom_unclosed : {x : Expression Word} {t : Bor (List Token)} → Parses a_choice (d - 1) s (Some (x, t)) → None ≡ past close_round (pieces_of t.now)
+      → Parses an_atom d ts None
+  atom_unclosed p g = record { value = λ n h. sym (inside p n h ∙ rw (← g) refl); onward = tt }
 
-    pub atom_closed : {u : Bor (List Token)} → Some (pieces_of u.now) ≡ past close_round (pieces_of t.now) → length u.now < length t.now
-        → Parses an_atom d ts (Some (x, u))
-    atom_closed g w =
-        let behind = p.onward in
-        record { value = λ n h. sym (inside p n h ∙ rw (← g) refl); onward = omega arith }
+  pub atom_closed : {x : Expression Word} {t u : Bor (List Token)} → Parses a_choice (d - 1) s (Some (x, t))
+      → Some (pieces_of u.now) ≡ past close_round (pieces_of t.now) → length u.now < length t.now → Parses an_atom d ts (Some (x, u))
+  atom_closed p g w =
+      let behind = p.onward in
+      record { value = λ n h. sym (inside p n h ∙ rw (← g) refl); onward = omega arith }
+
+pub atom_lost : (d : ℕ) (ts s : List Token) (r : Result (Expression Word × Bor (List Token)) Unread) (e : Unread) → IsErrAnd r (λ f. f ≡ e)
+    → IfRead (Err e) (λ o. Parses a_choice (d - 1) s o) → Some (pieces_of s) ≡ past open_round (pieces_of ts) → length s < length ts → 0 < d
+    → IfRead r (λ o. Parses an_atom d ts o)
+atom_lost d ts s r e h p f l z = handed_on (Parses a_choice (d - 1) s) (Parses an_atom d ts) r e h (atom_none ts s f l z) p
+
+-- an item is its atom, or what a sign of repetition behind it makes of it
+pub item_read : {d : ℕ} {ts : List Token} {x y : Expression Word} {s u : Bor (List Token)} → Parses an_atom d ts (Some (x, s))
+    → Some (written y, pieces_of u.now) ≡ repeated (written x, pieces_of s.now) → length u.now ≤ length s.now → Parses an_item d ts (Some (y, u))
+item_read {d} {ts} {x} {y} {s} {u} p e l =
+    let behind = p.onward in
+    record { value = go; onward = omega arith }
+  where
+    go : (n : ℕ) → 4 * length ts + 2 ≤ n → Some (written y, pieces_of u.now) ≡ parse n an_item d (pieces_of ts)
+    go zero h = absurd (omega arith)
+    go (suc m) h = e ∙ ap (λ o. o >>= repeated) (p.value m (omega arith))
+
+pub item_last : {d : ℕ} {ts : List Token} {x : Expression Word} {s : Bor (List Token)} → Parses an_atom d ts (Some (x, s))
+    → (None ≡ past asterisk (pieces_of s.now)) × (None ≡ past cross (pieces_of s.now)) × (None ≡ past question (pieces_of s.now))
+    → Parses an_item d ts (Some (x, s))
+item_last {d} {ts} {x} {s} p (a, b, c) = item_read p (rw (← a) (rw (← b) (rw (← c) refl))) (omega arith)
 
 -- an item is its atom where nothing is
 pub item_none : {d : ℕ} {ts : List Token} → Parses an_atom d ts None → Parses an_item d ts None

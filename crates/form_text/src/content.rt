@@ -63,16 +63,12 @@ fn item(heap: Global, tokens: &[Token], depth: usize) -> Parsed<'_>
     ensures { IfRead result (λ o. Parses an_item depth tokens.now o) }
 {
     let (atom, behind) = atom(heap, tokens, depth)?;
-    if let Some(end) = past(behind, Sign::Asterisk) {
-        return Ok((atom.repeated(heap)?, end));
+    match behind {
+        [Token::Sign(Sign::Asterisk), end @ ..] => Ok((atom.repeated(heap)?, end)),
+        [Token::Sign(Sign::Cross), end @ ..] => Ok((atom.repeated_once(heap)?, end)),
+        [Token::Sign(Sign::Question), end @ ..] => Ok((atom.omitted(heap)?, end)),
+        _ => Ok((atom, behind)),
     }
-    if let Some(end) = past(behind, Sign::Cross) {
-        return Ok((atom.repeated_once(heap)?, end));
-    }
-    if let Some(end) = past(behind, Sign::Question) {
-        return Ok((atom.omitted(heap)?, end));
-    }
-    Ok((atom, behind))
 }
 
 // A variable, or a choice in brackets, which may stand inside one another as deep as `depth` says.
@@ -80,20 +76,17 @@ fn item(heap: Global, tokens: &[Token], depth: usize) -> Parsed<'_>
 fn atom(heap: Global, tokens: &[Token], depth: usize) -> Parsed<'_>
     ensures { IfRead result (λ o. Parses an_atom depth tokens.now o) }
 {
-    if let [Token::Word(variable), behind @ ..] = tokens {
-        return Ok((Expression::Item(*variable), behind));
+    match tokens {
+        [Token::Word(variable), behind @ ..] => Ok((Expression::Item(*variable), behind)),
+        [Token::Sign(Sign::OpenRound), inside @ ..] if depth > 0 => {
+            let (inner, behind) = choice(heap, inside, depth - 1)?;
+            let Some(end) = past(behind, Sign::CloseRound) else {
+                return Err(Unread::NotOfForm);
+            };
+            Ok((inner, end))
+        }
+        _ => Err(Unread::NotOfForm),
     }
-    let Some(inside) = past(tokens, Sign::OpenRound) else {
-        return Err(Unread::NotOfForm);
-    };
-    if depth == 0 {
-        return Err(Unread::NotOfForm);
-    }
-    let (inner, behind) = choice(heap, inside, depth - 1)?;
-    let Some(end) = past(behind, Sign::CloseRound) else {
-        return Err(Unread::NotOfForm);
-    };
-    Ok((inner, end))
 }
 
 // Whether an atom, and so a choice, stands first.

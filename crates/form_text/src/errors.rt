@@ -24,7 +24,7 @@ pub enum StartError {
     NoMemory,
 }
 
-// Why the tokens of a part, of a rule or of a start, are not read.
+// Why the tokens of a part, of a rule or of a start, are not read. (A `StartError` says so of a whole start text.)
 #[derive(Clone, Copy)]
 pub(crate) enum Unread {
     // not of the form of the part
