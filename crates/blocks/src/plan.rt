@@ -13,7 +13,7 @@ use records::MOST_NODES;
 
 // A block whose names are words, and which has the length that its counts say: where each name starts, and the bytes of each node. The
 // table is what lets every question be answered without a walk. It has room for the most names, since questions need no heap: a rule of
-// the project.
+// the project. (An `ArrayVec` in its place proves as well, but each program above then checks that crate too, for minutes.)
 #[derive(Drop)]
 pub struct Plan<'b> {
     pub(crate) block: &'b [u8],

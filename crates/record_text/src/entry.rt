@@ -18,7 +18,7 @@ pub struct Entry {
 }
 
 impl Entry {
-    // The entry of a leaf, which has a value, or of a branch.
+    // The entry of a branch, or of a leaf with this value.
     pub fn new(start: usize, end: usize, name_len: usize, depth: usize, value: Option<i32>) -> Entry
         ensures { result ≡ entry start end name_len depth value }
     {
