@@ -17,18 +17,18 @@ fn split_name(bytes: &[u8]) -> (&[u8], &[u8]) {
     }
 }
 
-// The number of the first name that the record takes for node n's own, or `MOST_NAMES`.
-fn first_name(record: &BlockRecord<'_>, block: &[u8], n: usize) -> usize {
+// The number of the first name that the record takes for node n's own.
+fn first_name(record: &BlockRecord<'_>, block: &[u8], n: usize) -> Option<usize> {
     // The names begin behind their count, which takes two bytes.
     let mut names = block.get(2..).unwrap_or(&[]);
     for k in 0..MOST_NAMES {
         let (name, rest) = split_name(names);
         if record.is_named(n, name) {
-            return k;
+            return Some(k);
         }
         names = rest;
     }
-    MOST_NAMES
+    None
 }
 
 fn show_node(
@@ -39,7 +39,7 @@ fn show_node(
 ) -> anyhow::Result<()> {
     let depth = record.depth(n);
     let place = record.place(n);
-    let name = first_name(record, block, n);
+    let name = first_name(record, block, n).unwrap_or(MOST_NAMES);
     match record.value(n) {
         Some(value) => println!(rt; "{depth} {place} {value} {name}")?,
         None => println!(rt; "{depth} {place} - {name}")?,
@@ -62,7 +62,7 @@ fn answer(rt: &HostRuntime, block: &[u8]) -> anyhow::Result<()> {
     Ok(())
 }
 
-// The value of a hexadecimal digit; what another byte gives does not matter.
+// The value of a hexadecimal digit; what another byte gives does not matter. (So no crate for hexadecimals, which would refuse it.)
 fn digit(b: u8) -> u8 {
     match b {
         b'0'..=b'9' => b - b'0',

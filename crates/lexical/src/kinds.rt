@@ -311,7 +311,8 @@ fn entry_of(table: &[Kind; 256], b: u8) -> Kind
     table[b as usize]
 }
 
-// The kind of a byte. That the table follows the rule is what this call owes: one comparison of the whole table, computed.
+// The kind of a byte. (No `From<u8>`, which would be a second name for it.) That the table follows the rule is what this call owes: one
+// comparison of the whole table, computed.
 pub fn kind_of(b: u8) -> Kind
     ensures { result ≡ kind b }
 {

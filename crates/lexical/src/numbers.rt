@@ -19,6 +19,7 @@ fn figures(digits: &[u8], most: usize) -> Option<u32>
     if digits.is_empty() || digits.len() > most {
         return None;
     }
+    // A `for`, which `try_fold` would say no plainer.
     let mut n = 0;
     for b in digits {
         if !b.is_ascii_digit() {

@@ -35,7 +35,7 @@ fn show(rt: &HostRuntime, text: &[u8], list: &mut [Entry]) -> anyhow::Result<()>
     Ok(())
 }
 
-// The number that the digits write, at most `LONGEST_LIST`.
+// The number that the digits write, at most `LONGEST_LIST`, however many there are. (`parse` would refuse too many.)
 fn list_length(digits: &[u8]) -> usize {
     let mut n: usize = 0;
     for b in digits {

@@ -4,17 +4,15 @@
 
 use record_text::{Entry, open};
 use records::MOST_NODES;
+use refusals::Refusal;
 use std::io::Read;
 
-fn open_often(text: &[u8], list: &mut [Entry], times: usize) -> usize {
+fn open_often(text: &[u8], list: &mut [Entry], times: usize) -> Result<usize, Refusal> {
     let mut nodes = 0;
     for _ in 0..times {
-        match open(text, list) {
-            Ok(n) => nodes = n,
-            Err(_) => return 0,
-        }
+        nodes = open(text, list)?;
     }
-    nodes
+    Ok(nodes)
 }
 
 fn main(rt: HostRuntime) -> anyhow::Result<()> {
@@ -25,7 +23,7 @@ fn main(rt: HostRuntime) -> anyhow::Result<()> {
     };
     let times = if *how_often == b'1' { 2001 } else { 1 };
     let mut list = vec![in rt.alloc(); Entry::default(); MOST_NODES]?;
-    let nodes = open_often(text, &mut list, times);
+    let nodes = open_often(text, &mut list, times).unwrap_or(0);
     println!(rt; "{nodes}")?;
     Ok(())
 }

@@ -36,7 +36,7 @@ impl<'a, T: Copy> Stack<'a, T> {
         self.slots.len() <= self.len()
     }
 
-    // One entry more, or false where there is no room.
+    // One entry more, or false where there is no room. (A `bool`, as a set's `insert` has: an error would say no more.)
     pub fn push(&mut self, x: T) -> bool
         ensures test { result ≡ nat_lt (length (held self.old)) (room self.old) }
         ensures held { held self.new ≡ (if result then held self.old ++ x ∷ [] else held self.old) }

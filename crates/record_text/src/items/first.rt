@@ -8,7 +8,8 @@ ghost use Rattle.record_text.specs.Cutting.{First, no_figure};
 use super::Item;
 use lexical::{Kind, kind_of};
 
-// Where the first byte stands that is none of numbers.
+// Where the first byte stands that is none of numbers. (One call of the library, as is where a word ends in the reports and how long a
+// run is in form texts: one function for the three would take the test as a closure, and hand it on to that call.)
 fn first_other(text: &[u8]) -> Option<usize>
     ensures { result ≡ position no_figure text.now }
 {
