@@ -18,9 +18,8 @@ OFTEN = 3
 
 LINES = {
     "1 own enums": r"^(pub )?enum ",
-    "1 flags in structs": r"^ +(pub )?\w+: bool,",
+    "1 flags in structs, and as parameters": r"^ +(pub )?\w+: bool,|^ *(pub(\(\w+\))? )?fn .*: bool[,)]",
     "1 functions that answer a small number or a pair": r"^ *(pub(\(\w+\))? )?fn .*-> (u8|u16|\()",
-    "1 functions that take a flag": r"^ *(pub(\(\w+\))? )?fn .*: bool[,)]",
     "3 loops": r"^ *(for|while|loop)\b",
     "4 tests of a variant, and own names for what a trait has": r"matches!|\bfn (same|has_name|is_named|eq|cmp|clone|from|byte|number|digit|sign|value_of)\b",
     "4 refusals and values printed by hand": r"refused \{|\{sign\}|number\(\);$",

@@ -53,6 +53,7 @@ fn answer(rt: &HostRuntime, block: &[u8]) -> anyhow::Result<()> {
         Ok(()) => {
             let count = record.count();
             println!(rt; "ok {count}")?;
+            // By number, since that is how a record is asked.
             for n in 0..=count {
                 show_node(rt, &record, block, n)?;
             }

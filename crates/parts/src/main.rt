@@ -10,6 +10,7 @@ use std::io::{Read, Write};
 fn show_parts(rt: &HostRuntime, text: &[u8], list: &[Entry]) -> anyhow::Result<()> {
     let mut record = TextRecord::empty();
     let _ = record.lay(text, list);
+    // By number, since that is how a record is asked.
     for n in 0..=record.count() {
         let (part, place) = record.part(n);
         print!(rt; "{place} ")?;

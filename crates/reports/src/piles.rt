@@ -18,7 +18,8 @@ pub struct Asked<'w> {
     pub total: bool,
 }
 
-// The report of all nodes, with the sum of their values if asked. (Here and below the names stay those of what the record comes from,
+// The report of all nodes, with the sum of their values if asked (a line more or less, for which a closure would be no plainer than the
+// flag). (Here and below the names stay those of what the record comes from,
 // while each layer makes another record: so `source` and `names` are two parameters.)
 fn list_summed<R: Record, N: Names>(
     heap: Global,
