@@ -1,12 +1,12 @@
-"""Compares the answers of the program `form_cases` with those of a parser of its own, and the sets of contents with python3's `re`.
+"""Compares the answers of the program `form_cases` with those of a parser of its own, and the sets of contents with derivatives and python3's `re`.
 
 Usage: python3 tools/compare_forms.py PROGRAM [--texts 4000] [--contents 1500] [--seed 1]
 
 The script makes rule texts and start texts, good ones and damaged ones, and compares what is read
 of each with what a parser reads here, which goes by bytes and knows no pieces. Then it makes
 contents. Of each it compares the marked expression and the four sets: with the sets that are found
-by Brzozowski's derivatives of the expression, and by words, each of which must match the
-expression as `re` takes it exactly when the program's sets let it through.
+by derivatives of the expression, and by words, each of which must match the expression (by
+derivatives, and as `re` takes it) exactly when the program's sets let it through.
 """
 
 import argparse
@@ -23,6 +23,8 @@ from form_examples import FORM_EXAMPLES
 LONGEST_TEXT = 512
 DEEPEST = 16
 MOST_OCCURRENCES = 256
+# The most repeats inside one another for which `re` is asked, whose time grows exponentially with them.
+MOST_NESTING = 2
 
 LETTERS = b"ABCDEFGHIJKLMNOPQRSTUVWXYZabcdefghijklmnopqrstuvwxyz"
 WORD = re.compile(rb"[A-Za-z][A-Za-z0-9-]*")
@@ -265,6 +267,27 @@ def as_pattern(expression):
     return "".join(inner) + {"seq": "", "star": "*", "plus": "+", "opt": "?"}[name]
 
 
+def nesting(expression):
+    """Returns how many repeats stand inside one another."""
+    if expression[0] == "item":
+        return 0
+    inner = max((nesting(part) for part in expression[1:]), default=0)
+    return inner + (expression[0] in ("star", "plus", "opt"))
+
+
+def matcher(expression):
+    """Returns the test whether a word matches: by derivatives, and by `re` too where it need not try too many ways."""
+    pattern = re.compile(as_pattern(expression)) if nesting(expression) <= MOST_NESTING else None
+
+    def matches(word):
+        found = any(has_empty(rest) for rest in functools.reduce(step, word, frozenset([expression])))
+        if pattern:
+            assert found == (pattern.fullmatch("".join(chr(0x1000 + p) for p in word)) is not None), (expression, word)
+        return found
+
+    return matches, pattern is not None
+
+
 class Sets:
     """The four sets of a content as the program printed them."""
 
@@ -498,36 +521,37 @@ def compare_texts(program, maker, count):
 
 
 def compare_words(maker, case, lines):
-    """Compares the words of one content; returns how many words there were, how many match, and the first that differs."""
+    """Compares the words of one content; returns how many there were, how many `re` was asked, how many match, and the first that differs."""
     base, _, text = case.partition(b" ")[2].partition(b" ")
     expression = marked_content(int(base), text)
-    pattern = re.compile(as_pattern(expression))
+    match, by_re = matcher(expression)
     sets = Sets(lines)
     words = maker.words(items(expression), sets)
     matching = 0
+    asked = len(words) if by_re else 0
     for word in words:
-        matches = pattern.fullmatch("".join(chr(0x1000 + p) for p in word)) is not None
+        matches = match(word)
         matching += matches
         if matches != sets.lets_through(word):
-            return len(words), matching, word
-    return len(words), matching, None
+            return len(words), asked, matching, word
+    return len(words), asked, matching, None
 
 
 def compare_sets(program, maker, count):
     """Compares the sets of contents; returns how many are wrong, and the status."""
     cases = [b"sets %d %s" % maker.set_case() for _ in range(count)]
     answers, wrong, status = compare_cases(program, cases)
-    words = matching = contents = 0
+    words = by_re = matching = contents = 0
     for case, lines in zip(cases, answers):
         if not lines[0].startswith("ok "):
             continue
-        tried, matched, differing = compare_words(maker, case, lines)
-        contents, words, matching = contents + 1, words + tried, matching + matched
+        tried, asked, matched, differing = compare_words(maker, case, lines)
+        contents, words, by_re, matching = contents + 1, words + tried, by_re + asked, matching + matched
         if differing is not None:
             wrong += 1
             if wrong <= SHOWN_DISAGREEMENTS:
-                print(f"{cut_for_show(case)}: the sets and `re` differ on the word {differing}")
-    print(f"{len(cases)} contents: {contents} marked, {words} words of them, {matching} of these match")
+                print(f"{cut_for_show(case)}: the sets and the expression differ on the word {differing}")
+    print(f"{len(cases)} contents: {contents} marked, {words} words of them ({by_re} also by re), {matching} match")
     return wrong, status
 
 
