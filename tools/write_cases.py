@@ -1,11 +1,12 @@
-"""Writes what the programs `openings` and `outline` are run on by the gate, and what they must print.
+"""Writes what the programs `openings`, `outline` and `form_cases` are run on by the gate, and what they must print.
 
 Usage: python3 tools/write_cases.py [--check]
 
 The cases of `openings` are the named examples, which have bytes 0 between them and large texts
 among them. Their answers are written by hand in tools/named_examples.py, and nothing is written
 unless expat agrees with all of them. The case of `outline` is the record in crates/outline/stdin,
-which is kept by hand; its answer is computed from expat.
+which is kept by hand; its answer is computed from expat. The cases of `form_cases`, and their
+answers, are written by hand in tools/form_examples.py.
 """
 
 import argparse
@@ -14,6 +15,7 @@ from pathlib import Path
 
 from compare_with_expat import Opening, as_input, hundredths
 from comparing import first_difference
+from form_examples import FORM_EXAMPLES
 from named_examples import EXAMPLES
 
 CRATES = Path(__file__).resolve().parent.parent / "crates"
@@ -34,6 +36,16 @@ def openings_input():
 def openings_output():
     """Returns what `openings` must print, from the answers written by hand."""
     return "".join(line + "\n" for example in EXAMPLES for line in example.lines).encode()
+
+
+def form_input():
+    """Returns the cases of `form_cases`."""
+    return b"".join(example.case + b"\n" for example in FORM_EXAMPLES)
+
+
+def form_output():
+    """Returns what `form_cases` must print, from the answers written by hand."""
+    return "".join(line + "\n" for example in FORM_EXAMPLES for line in example.lines).encode()
 
 
 def two_decimals(value):
@@ -57,13 +69,15 @@ def outline_output(text):
 
 def main():
     """Writes the files, or says which of them are not as they would be written."""
-    parser = argparse.ArgumentParser(description="Writes the cases of openings and outline.")
+    parser = argparse.ArgumentParser(description="Writes the cases of openings, outline and form_cases.")
     parser.add_argument("--check", action="store_true", help="write nothing, and end with 1 if a file is not current")
     arguments = parser.parse_args()
     check_examples()
     files = {
         "openings/stdin": openings_input(),
         "openings/stdout": openings_output(),
+        "form_cases/stdin": form_input(),
+        "form_cases/stdout": form_output(),
         "outline/stdout": outline_output((CRATES / "outline/stdin").read_bytes()),
     }
     stale = 0
@@ -74,7 +88,7 @@ def main():
         elif not path.exists() or path.read_bytes() != content:
             print(f"crates/{name} is not current")
             stale += 1
-    print(f"{len(EXAMPLES)} examples, {sum(len(content) for content in files.values())} bytes")
+    print(f"{len(EXAMPLES) + len(FORM_EXAMPLES)} examples, {sum(len(content) for content in files.values())} bytes")
     return 1 if stale else 0
 
 
