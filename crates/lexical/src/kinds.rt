@@ -1,7 +1,7 @@
 // The kind of every byte, by one table.
-ghost use Rattle.std.specs.Prelude.{◌≡◌, map};
+ghost use Rattle.std.specs.Prelude.{◌≡◌, ◌==◌, map};
 ghost use Rattle.std.specs.List.{range_with_len};
-ghost use Rattle.lexical.specs.Kinds.{kind, kind_rule};
+ghost use Rattle.lexical.specs.Kinds.{digit, kind, kind_rule};
 ghost use Rattle.lexical.specs.Numbers.{figure_kind};
 ghost use Rattle.lexical.specs.Words.{begins_word, continues_word};
 
@@ -317,4 +317,38 @@ pub fn kind_of(b: u8) -> Kind
     ensures { result ≡ kind b }
 {
     entry_of(&KINDS, b)
+}
+
+// Of the single signs, and of digits, contracts speak by the byte's value. These ask its kind, so that the table decides there too.
+
+pub(crate) fn is_digit(b: u8) -> bool
+    ensures { result ≡ digit b }
+{
+    matches!(kind_of(b), Kind::Digit)
+}
+
+pub(crate) fn is_hyphen(b: u8) -> bool
+    ensures { result ≡ (b == 45) }
+{
+    matches!(kind_of(b), Kind::Hyphen)
+}
+
+pub(crate) fn is_point(b: u8) -> bool
+    ensures { result ≡ (b == 46) }
+{
+    matches!(kind_of(b), Kind::Point)
+}
+
+// Whether a byte is a `>`.
+pub fn is_greater(b: u8) -> bool
+    ensures { result ≡ (b == 62) }
+{
+    matches!(kind_of(b), Kind::Greater)
+}
+
+// Whether a byte is a `/`.
+pub fn is_slash(b: u8) -> bool
+    ensures { result ≡ (b == 47) }
+{
+    matches!(kind_of(b), Kind::Slash)
 }

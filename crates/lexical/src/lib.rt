@@ -9,7 +9,7 @@ mod rounding;
 mod spelled;
 mod words;
 
-pub use kinds::{Kind, kind_of};
+pub use kinds::{Kind, is_greater, is_slash, kind_of};
 pub use laws::{number_rule, rounding_rule, worked_numbers};
 pub use numbers::number;
 pub use parts::{after, part};

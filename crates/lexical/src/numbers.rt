@@ -3,6 +3,7 @@ ghost use Rattle.std.specs.Prelude.{◌≡◌, ◌==◌, ◌^◌, ◌<◌, ◌�
 ghost use Rattle.std.specs.List.{position};
 ghost use Rattle.lexical.specs.Numbers.{Means, most_fraction, valued, scaled, first_point, fraction, thousandths, has_minus, signed, exact, number};
 
+use crate::kinds::{is_digit, is_hyphen, is_point};
 use crate::rounding::hundredths;
 
 // The most digits before the point, and after it.
@@ -22,7 +23,7 @@ fn figures(digits: &[u8], most: usize) -> Option<u32>
     // A `for`, which `try_fold` would say no plainer.
     let mut n = 0;
     for b in digits {
-        if !b.is_ascii_digit() {
+        if !is_digit(*b) {
             return None;
         }
         n = n * 10 + u32::from(*b - b'0');
@@ -34,7 +35,7 @@ fn figures(digits: &[u8], most: usize) -> Option<u32>
 fn first_point(bytes: &[u8]) -> Option<usize>
     ensures { result ≡ position (λ b. b == 46) bytes.now }
 {
-    bytes.iter().position(|b| *b == b'.')
+    bytes.iter().position(|b| is_point(*b))
 }
 
 // Digits after the point with the value n, in thousandths.
@@ -72,9 +73,9 @@ fn thousandths(bytes: &[u8]) -> Option<u32>
 fn exact(bytes: &[u8]) -> Option<i32>
     ensures { result ≡ exact bytes.now }
 {
-    match bytes.strip_prefix(b"-") {
-        Some(size) => Some(-(thousandths(size)? as i32)),
-        None => Some(thousandths(bytes)? as i32),
+    match bytes {
+        [sign, size @ ..] if is_hyphen(*sign) => Some(-(thousandths(size)? as i32)),
+        _ => Some(thousandths(bytes)? as i32),
     }
 }
 

@@ -3,7 +3,7 @@ ghost use Rattle.std.specs.Prelude.{◌≡◌};
 ghost use Rattle.record_text.specs.Tags.{Slashed, name_in, told};
 ghost use Rattle.record_text.specs.Machine.{tag_of};
 
-use lexical::is_word;
+use lexical::{is_slash, is_word};
 
 // A tag, with its name.
 #[derive(Clone, Copy)]
@@ -28,8 +28,8 @@ fn by_slashes(body: &[u8]) -> Tag<'_>
     ensures { Slashed body.now result }
 {
     match body {
-        [b'/', name @ ..] => Tag::Closing(name),
-        [name @ .., b'/'] => Tag::Alone(name),
+        [first, name @ ..] if is_slash(*first) => Tag::Closing(name),
+        [name @ .., last] if is_slash(*last) => Tag::Alone(name),
         name => Tag::Opening(name),
     }
 }

@@ -6,7 +6,7 @@ ghost use Rattle.lexical.specs.Numbers.{figure_kind};
 ghost use Rattle.record_text.specs.Cutting.{First, no_figure};
 
 use super::Item;
-use lexical::{Kind, kind_of};
+use lexical::{Kind, is_greater, kind_of};
 
 // Where the first byte stands that is none of numbers. (One call of the library, as is where a word ends in the reports and how long a
 // run is in form texts: one function for the three would take the test as a closure, and hand it on to that call.)
@@ -20,7 +20,7 @@ fn first_other(text: &[u8]) -> Option<usize>
 fn first_greater(text: &[u8]) -> Option<usize>
     ensures { result ≡ position (λ b. b == 62) text.now }
 {
-    text.iter().position(|b| *b == b'>')
+    text.iter().position(|b| is_greater(*b))
 }
 
 // The number that the text begins with, and what is left then.

@@ -16,8 +16,8 @@ returns-then-is_empty-clause-value c =
       | then-is_empty-via-else-is_empty+then-digits-most w ↦ sym (valued_long c.args.most s w.if-digits-most.true)
     ]
 
-pub returns-then-not-is_ascii_digit-clause-value : goal.returns-then-not-is_ascii_digit-clause-value
-returns-then-not-is_ascii_digit-clause-value c =
+pub returns-then-not-is_digit-clause-value : goal.returns-then-not-is_digit-clause-value
+returns-then-not-is_digit-clause-value c =
     let s = c.args.digits.now in
     let i = c.loop-b.b-index in
     let d : digit (get_or s i 0) ≡ false = search rules in
