@@ -1,8 +1,8 @@
 -- What is answered of a node that is there, and of one that is not.
-use Rattle.std.proofs.Common.{◌≡◌, ℕ, ◌<◌, ◌≤◌, Bool, true, false, cond, ltb, List, length, get_or, MatchOption, Some, None, Option, sym, refl, subst, ap, ◌∙◌, arith}
+use Rattle.std.proofs.Common.{◌≡◌, ℕ, ◌<◌, ◌≤◌, Bool, true, cond, ltb, List, length, get_or, Some, None, sym, ap, ◌∙◌, arith}
 use Rattle.std.proofs.lemmas.List.FromFn.{get_or-range_with_len, get_or-map-range_with_len, length-range_with_len}
 use Rattle.std.proofs.lemmas.List.{get_or_past}
-use Rattle.std.proofs.lemmas.Bool.{and_parts, ltb-true, ltb-false}
+use Rattle.std.proofs.lemmas.Bool.{and_parts, ltb-true}
 use Rattle.records.specs.Nodes.{Node, no_node}
 use Rattle.blocks.specs.Places.{block_nodes, block_places, good_block, name_count, name_number, node_at, node_count, node_depth, node_fits, node_start, node_value}
 use Rattle.blocks.specs.Reading.{Found, Missing, row_at}
@@ -15,7 +15,7 @@ module _ (bs : List ℕ) (n : ℕ) where
   abbrev row : Row
   row = let at = node_start bs n in record { name = name_number bs at; depth = node_depth bs at; value = node_value bs at }
 
-  found : good_block bs ≡ true → n < node_count bs → (row_at bs (node_start bs n) ≡ Some row) × Found bs n row
+  pub found : good_block bs ≡ true → n < node_count bs → (row_at bs (node_start bs n) ≡ Some row) × Found bs n row
   found good there =
       let at = node_start bs n in
       let l = block_length bs in
@@ -32,7 +32,7 @@ module _ (bs : List ℕ) (n : ℕ) where
         },
       )
 
-  missing : node_count bs ≤ n → Missing bs n
+  pub missing : node_count bs ≤ n → Missing bs n
   missing m =
       let l = block_length bs in
       let h : length (block_nodes bs) ≤ n = omega arith in
@@ -53,11 +53,3 @@ module _ (bs : List ℕ) (n : ℕ) where
         let e = block_length bs in
         let places = length-range_with_len 0 (node_count bs) in
         sym (get_or_past (block_places bs) n 0 (omega arith))
-
-  -- what is answered of node n
-  pub finding : good_block bs ≡ true → MatchOption (cond (ltb n (node_count bs)) (row_at bs (node_start bs n)) None) (Missing bs n) (λ r. Found bs n r)
-  finding good =
-      elim (ltb n (node_count bs)) as (λ t. ltb n (node_count bs) ≡ t → MatchOption (cond t (row_at bs (node_start bs n)) None) (Missing bs n) (λ r. Found bs n r)) [
-        | true ↦ λ e. let f = found good (ltb-true n (node_count bs) e) in subst (λ (r : Option Row). MatchOption r (Missing bs n) (λ r. Found bs n r)) (sym f.0) f.1
-        | false ↦ λ e. missing (ltb-false n (node_count bs) e)
-      ] refl

@@ -32,7 +32,9 @@ impl<'b> BlockRecord<'b> {
     pub fn take(&mut self, block: &'b [u8]) -> Result<(), Refusal>
         ensures { MatchResult result (λ _. (good_block block.now ≡ true) × (self.new.plan.block.now ≡ block.now)) (λ e. (number e ≡ 5) × (places e ≡ []) × (good_block block.now ≡ false) × (self.new ≡ self.old)) }
     {
-        let plan = Plan::of(block).ok_or(Refusal::Block)?;
+        let Some(plan) = Plan::of(block) else {
+            return Err(Refusal::Block);
+        };
         if !plan.is_good() {
             return Err(Refusal::Block);
         }
@@ -44,7 +46,7 @@ impl<'b> BlockRecord<'b> {
     fn find(&self, n: usize) -> Option<Row>
         ensures { MatchOption result (Missing self.now.plan.block.now n) (λ row. Found self.now.plan.block.now n row) }
     {
-        self.plan.row(n)
+        Some(Row::of(self.plan.node(n)?))
     }
 
     // The name of node n, or nothing where there is none.

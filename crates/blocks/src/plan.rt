@@ -1,5 +1,5 @@
 // Where things stand in a block.
-ghost use Rattle.std.specs.Prelude.{◌≡◌, ℕ, ◌+◌, ◌<◌, ◌≤◌, true, false, [], None, MatchOption, if◌then◌else◌, length, nat_lt, slice_index, slice_index_or};
+ghost use Rattle.std.specs.Prelude.{◌≡◌, ℕ, ◌+◌, ◌<◌, ◌≤◌, true, false, [], None, MatchOption, length, slice_index, slice_index_or};
 ghost use Rattle.records.specs.Limits.{most_nodes};
 ghost use Rattle.blocks.specs.Layout.{most_names, node_bytes};
 ghost use Rattle.blocks.specs.Places.{all_words, block_nodes, good_block, name_count, name_of, name_start, node_count, node_start};
@@ -99,11 +99,11 @@ impl<'b> Plan<'b> {
         self.nodes.len()
     }
 
-    // Node i; none where there is none, or its value does not fit.
-    pub(crate) fn row(&self, i: usize) -> Option<Row>
-        ensures { result ≡ (if nat_lt i (node_count self.now.block.now) then row_at self.now.block.now (node_start self.now.block.now i) else None) }
+    // The bytes of node i, if there is one.
+    pub(crate) fn node(&self, i: usize) -> Option<&'b [u8; NODE_BYTES]>
+        ensures { MatchOption result (node_count self.now.block.now ≤ i) (λ bytes. (i < node_count self.now.block.now) × (row_of bytes.now ≡ row_at self.now.block.now (node_start self.now.block.now i))) }
     {
-        Row::read(self.nodes.get(i)?)
+        self.nodes.get(i)
     }
 
     // Whether the nodes fit, in the shape of records.
