@@ -1,9 +1,9 @@
 // A report, as it is written.
-ghost use Rattle.std.specs.Prelude.{◌≡◌, ℕ, List, [], ◌++◌, OnOk};
+ghost use Rattle.std.specs.Prelude.{◌≡◌, ℕ, List, [], ◌∷◌, ◌++◌, OnOk};
 ghost use Rattle.refusals.specs.Refusals.{number, places};
-ghost use Rattle.reports.specs.Lines.{count_line, refused_line, row, total_line};
+ghost use Rattle.reports.specs.Lines.{count_line, held_text, line, refused_line, row, total_line};
 
-use crate::values::{Held, Hundredths};
+use crate::values::Hundredths;
 use refusals::Refusal;
 use std::alloc::{AllocError, Global};
 use std::marker::Model;
@@ -46,11 +46,23 @@ impl Report {
         self.bytes
     }
 
+    // Adds a blank, what a node holds, and the end of its line. (A branch's is written as it stands: as text made anew for each line it
+    // takes a fifth of a report's instructions.)
+    fn push_held(&mut self, value: Option<i32>) -> Result<(), AllocError>
+        ensures { OnOk result (self.new ≡ self.old ++ 32 ∷ line (held_text value) []) }
+    {
+        let Some(value) = value else {
+            return self.bytes.extend_from_slice(b" -\n");
+        };
+        let value = Hundredths(i64::from(value));
+        let text = format!(in *self.bytes.allocator(); " {value}\n")?;
+        self.bytes.extend_from_slice(text.as_bytes())
+    }
+
     // Adds the line of a node.
     pub fn push_row(&mut self, node: Row<'_>) -> Result<(), AllocError>
         ensures { OnOk result (self.new ≡ self.old ++ row node.entry.index node.entry.place node.entry.depth node.entry.name.now node.entry.value) }
     {
-        let heap = *self.bytes.allocator();
         let Row {
             index,
             place,
@@ -58,12 +70,10 @@ impl Report {
             name,
             value,
         } = node;
-        let held = Held(value);
-        let front = format!(in heap; "{index} {place} {depth} ")?;
-        let back = format!(in heap; " {held}\n")?;
+        let front = format!(in *self.bytes.allocator(); "{index} {place} {depth} ")?;
         self.bytes.extend_from_slice(front.as_bytes())?;
         self.bytes.extend_from_slice(name)?;
-        self.bytes.extend_from_slice(back.as_bytes())
+        self.push_held(value)
     }
 
     // Adds the line that counts the nodes.

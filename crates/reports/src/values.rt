@@ -1,16 +1,12 @@
 // Values as text.
 ghost use Rattle.std.specs.Prelude.{◌≡◌, Some};
-ghost use Rattle.reports.specs.Lines.{held_text, sign_text, value_text};
+ghost use Rattle.reports.specs.Lines.{sign_text, value_text};
 
 use std::fmt;
 
 // A number of hundredths, as a decimal with two digits after the point.
 #[derive(Clone, Copy)]
 pub(crate) struct Hundredths(pub i64);
-
-// What a node holds: a leaf's value in hundredths, or for a branch a hyphen.
-#[derive(Clone, Copy)]
-pub(crate) struct Held(pub Option<i32>);
 
 // The minus of a number below zero.
 fn sign(value: i64) -> &'static str
@@ -30,19 +26,5 @@ impl fmt::Display for Hundredths {
         let tenths = size / 10 % 10;
         let last = size % 10;
         write!(f, "{sign}{whole}.{tenths}{last}")
-    }
-}
-
-impl fmt::Display for Held {
-    ghost output = { λ h. Some (held_text h.0) };
-
-    fn fmt<W: fmt::Write>(&self, f: &mut fmt::Formatter<W>) -> fmt::Result {
-        match self.0 {
-            Some(value) => {
-                let value = Hundredths(i64::from(value));
-                write!(f, "{value}")
-            }
-            None => write!(f, "-"),
-        }
     }
 }
