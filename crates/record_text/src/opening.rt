@@ -1,5 +1,6 @@
 // The passes over a text that `open` and `lay` make. They are no one function over a closure: after a call, a proof knows nothing of
-// what a closure borrowed and changed; and no function makes the reader with its slots, which must outlive it.
+// what a closure borrowed and changed; and no function makes the reader with its slots, which must outlive it. `open` makes the slots
+// once for its two passes: what making them costs is most of what a text of a few bytes does.
 ghost use Rattle.std.specs.Prelude.{◌≡◌, true, Decides, is_ok, slice_set};
 ghost use Rattle.record_text.specs.Agree.{Has};
 ghost use Rattle.record_text.specs.Opening.{Opened};
@@ -14,11 +15,10 @@ use records::MOST_LEVELS;
 use refusals::Refusal;
 
 // How many nodes the text has, or its first item at fault.
-fn counted(text: &[u8]) -> Result<usize, Refusal>
+fn counted<'t>(text: &'t [u8], slots: &mut [OpenTag<'t>; MOST_LEVELS]) -> Result<usize, Refusal>
     ensures { result ≡ outcome (read text.now) }
 {
-    let mut slots = [OpenTag::default(); MOST_LEVELS];
-    let mut reader = Reader::over(text, &mut slots);
+    let mut reader = Reader::over(text, slots);
     while reader.next_node()?.is_some() {}
     Ok(reader.nodes())
 }
@@ -33,12 +33,15 @@ fn put(list: &mut [Entry], node: usize, entry: Entry)
 }
 
 // Writes the entry of each node that lies in the list.
-fn fill(text: &[u8], list: &mut [Entry]) -> Result<(), Refusal>
+fn fill<'t>(
+    text: &'t [u8],
+    list: &mut [Entry],
+    slots: &mut [OpenTag<'t>; MOST_LEVELS],
+) -> Result<(), Refusal>
     ensures read { Faultless text.now → is_ok result ≡ true }
     ensures written { Faultless text.now → list.new ≡ entries text.now list.old }
 {
-    let mut slots = [OpenTag::default(); MOST_LEVELS];
-    let mut reader = Reader::over(text, &mut slots);
+    let mut reader = Reader::over(text, slots);
     while let Some((node, entry)) = reader.next_node()? {
         put(list, node, entry);
     }
@@ -69,10 +72,14 @@ pub(crate) fn compared(text: &[u8], list: &[Entry]) -> Result<usize, Refusal>
 }
 
 // What `open` answers, before anything is written: the text is counted, and then the room in the list.
-fn verdict(text: &[u8], list: &[Entry]) -> Result<usize, Refusal>
+fn verdict<'t>(
+    text: &'t [u8],
+    list: &[Entry],
+    slots: &mut [OpenTag<'t>; MOST_LEVELS],
+) -> Result<usize, Refusal>
     ensures { Verdict text.now list.now result }
 {
-    let nodes = counted(text)?;
+    let nodes = counted(text, slots)?;
     if nodes > list.len() {
         return Err(Refusal::Short);
     }
@@ -84,7 +91,8 @@ fn verdict(text: &[u8], list: &[Entry]) -> Result<usize, Refusal>
 pub fn open(text: &[u8], list: &mut [Entry]) -> Result<usize, Refusal>
     ensures { Opened text.now list.old result list.new }
 {
-    let nodes = verdict(text, list)?;
-    fill(text, list)?;
+    let mut slots = [OpenTag::default(); MOST_LEVELS];
+    let nodes = verdict(text, list, &mut slots)?;
+    fill(text, list, &mut slots)?;
     Ok(nodes)
 }
