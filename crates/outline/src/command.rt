@@ -22,7 +22,8 @@ impl Command {
                 "block" => command.block = true,
                 "total" => command.total = true,
                 "cut" => command.cut = Some(args.next()?.parse::<usize>().ok()?),
-                "hide" => command.hide = Some(args.next()?),
+                // No node has an empty name, so an empty one asks for nothing.
+                "hide" => command.hide = Some(args.next()?).filter(|name| !name.is_empty()),
                 _ => return None,
             }
         }
