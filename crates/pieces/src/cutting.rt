@@ -35,8 +35,8 @@ fn run_of(run: Run, text: &[u8]) -> (Option<Token>, &[u8])
     ensures whole { length (front run text.now) + length result.1.now ≡ length text.now }
     ensures same { before result.0 (pieces result.1.now) ≡ run_piece run (front run text.now) ∷ pieces_after (Some run) text.now }
 {
-    let (bytes, rest) = text.split_at(run_len(run, text));
-    (Some(run.token(bytes)), rest)
+    let len = run_len(run, text);
+    (Some(run.token(&text[..len])), &text[len..])
 }
 
 // The piece that a text begins with, none for a blank, and the bytes behind it. Nothing at the end of the text.
